@@ -24,7 +24,7 @@ const LOG_ROOM: usize = 65_536;
 
 // What is left of a recorded run: what both threads saw, the log, and why it stopped, if it did.
 #[derive(Drop)]
-pub(crate) struct Recorded {
+pub(crate) struct RecordedRun {
     pub transcripts: Transcripts,
     pub sink: MemorySink,
     pub stop: Option<Stop>,
@@ -36,7 +36,7 @@ pub(crate) fn record<O: Outside + Send + Drop, R: Threads + Wait + Sync>(
     alloc: Global,
     path: &str,
     outsides: Vec<O>,
-) -> anyhow::Result<Recorded>
+) -> anyhow::Result<RecordedRun>
     requires unused { All (IsUnused O.given O.failures) outsides.items }
 {
     let mut actors: Vec<BoxedActor> = Vec::new(alloc);
@@ -45,7 +45,7 @@ pub(crate) fn record<O: Outside + Send + Drop, R: Threads + Wait + Sync>(
     }
     let sink = MemorySink::new(alloc, LOG_ROOM)?;
     match run_recorded(rt, alloc, actors, outsides, sink, SETTINGS) {
-        Ok(ended) => Ok(Recorded {
+        Ok(ended) => Ok(RecordedRun {
             transcripts: ended.transcripts,
             sink: ended.sink,
             stop: ended.stop,

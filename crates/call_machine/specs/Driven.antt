@@ -8,8 +8,8 @@ use Rattle.lock_model.specs.Runs.{Arises}
 use Rattle.lock_model.specs.Schedule.{IsOver}
 use Rattle.lock_model.specs.State.{State}
 use Rattle.lock_machine.specs.Diverging.{is_diverging}
-use Rattle.lock_machine.specs.declared.refused.Refused.{Refused}
-use Rattle.lock_machine.specs.declared.refused.Refused.TheVariants as refused
+use Rattle.lock_machine.specs.declared.refused.LockRefused.{LockRefused}
+use Rattle.lock_machine.specs.declared.refused.LockRefused.TheVariants as refused
 use Rattle.call_machine.specs.Logs.{LogsMore, Written, plain_records}
 use Rattle.call_machine.specs.Plain.{GoesTo, header_of}
 use Rattle.call_machine.specs.Setup.{Inputs, first_state, setup_of}
@@ -89,7 +89,7 @@ pub record Begins (input : Inputs) (p : Played) : Type 0 where
   pub log : p.log ≡ first_log input
 
 -- what an event of the machine gave, if it was made
-abbrev pub IsTold : {A : Type 0} → Result A Refused → Option A → Type 0
+abbrev pub IsTold : {A : Type 0} → Result A LockRefused → Option A → Type 0
 IsTold (Ok a) o = o ≡ Some a
 IsTold (Err refused.WrongPhase) o = o ≡ None
 IsTold (Err refused.ClockFull) o = o ≡ None

@@ -17,7 +17,7 @@ use crate::driver::Driver;
 use crate::log::Log;
 use crate::players::first_players;
 use input_log::{Header, Record};
-use lock_machine::{LockMachine, Phase, Progress, Refused, machines_show};
+use lock_machine::{LockMachine, Phase, Progress, LockRefused, machines_show};
 use lock_model::{arising_states, one_event, turn_order};
 use logical_clocks::least_is_found;
 use posix_terms::{Given, Outcomes};
@@ -213,7 +213,7 @@ impl Driver {
 }
 
 // Thread i, which works, asks this step, or ends.
-fn ask(machine: &mut LockMachine, i: usize, step: Step) -> Result<(), Refused>
+fn ask(machine: &mut LockMachine, i: usize, step: Step) -> Result<(), LockRefused>
     requires { i < length machine.old.threads }
     ensures event { Comes (works (phase_at machine.old i)) result machine.old machine.new (λ o. AsksFor (is_some o) i step machine.old machine.new) }
     ensures count { length machine.new.threads ≡ length machine.old.threads }
@@ -225,12 +225,12 @@ fn ask(machine: &mut LockMachine, i: usize, step: Step) -> Result<(), Refused>
 }
 
 // What an event gave, if it was made.
-fn told<T>(given: Result<T, Refused>) -> Result<Option<T>, AllocError>
+fn told<T>(given: Result<T, LockRefused>) -> Result<Option<T>, AllocError>
     ensures { IfOk result (λ o. IsTold given o) }
 {
     match given {
         Ok(value) => Ok(Some(value)),
-        Err(Refused::Memory) => Err(AllocError),
+        Err(LockRefused::Memory) => Err(AllocError),
         Err(_) => Ok(None),
     }
 }

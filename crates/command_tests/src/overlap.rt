@@ -5,7 +5,7 @@ use crate::devices::sources;
 use crate::listed::success;
 use crate::recording::{LogFile, free_path, record};
 use commands::DEFAULTS;
-use host_doors::{PairGate, Place, ScriptDoors};
+use host_doors::{PairGate, OutcomePlace, ScriptDoors};
 use posix_terms::{Bytes, Given, OutKind, Outcome, Outcomes};
 use std::alloc::{AllocError, Global};
 use std::fs::remove_file;
@@ -48,12 +48,12 @@ fn outcomes(alloc: Global, openings: u64, byte: u8) -> Result<Outcomes, AllocErr
     Ok(Outcomes::from_vec(outcomes))
 }
 
-const FIRST: Place = Place {
+const FIRST: OutcomePlace = OutcomePlace {
     thread: 0,
     number: 2,
 };
 
-const SECOND: Place = Place {
+const SECOND: OutcomePlace = OutcomePlace {
     thread: 1,
     number: 0,
 };

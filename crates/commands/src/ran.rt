@@ -43,7 +43,7 @@ pub struct RunHistory {
 #[derive(Debug, Drop)]
 enum Kept {
     Plain(call_machine::History),
-    Threads(recorder::History),
+    Threads(recorder::RecordedHistory),
 }
 
 impl Model for RunHistory {

@@ -1,6 +1,6 @@
 ghost use Rattle.std.specs.Prelude.{None};
 
-use crate::refusals::{Host, Noted, Refusals};
+use crate::refusals::{Host, NotedReads, Refusals};
 use clap::ArgMatches;
 use commands::{Source, SourceFault, TextReader, read_once};
 use std::alloc::{AllocError, Global};
@@ -21,14 +21,14 @@ pub(crate) fn path_of(path: &str) -> &str {
 // Where a text comes from.
 #[derive(Drop)]
 pub(crate) struct Input<'h> {
-    place: Place,
+    place: Origin,
     refusals: &'h Refusals,
 }
 
 // A text that could not be opened fails when it is read, so that the faults of all scripts are found in
 // one order.
 #[derive(Drop)]
-enum Place {
+enum Origin {
     Stdin(Stdin),
     File(File),
     Unreadable(io::Error),
@@ -40,9 +40,9 @@ impl TextReader for Input<'_> {
     fn next_bytes(&mut self, buffer: &mut [u8]) -> Result<usize, SourceFault> {
         let refusals = self.refusals;
         match &mut self.place {
-            Place::Stdin(reader) => read_once(&mut Noted { reader, refusals }, buffer),
-            Place::File(reader) => read_once(&mut Noted { reader, refusals }, buffer),
-            Place::Unreadable(error) => {
+            Origin::Stdin(reader) => read_once(&mut NotedReads { reader, refusals }, buffer),
+            Origin::File(reader) => read_once(&mut NotedReads { reader, refusals }, buffer),
+            Origin::Unreadable(error) => {
                 refusals.note(*error);
                 Err(SourceFault)
             }
@@ -66,11 +66,11 @@ pub(crate) fn open_scripts<'a, 'h>(
 // another user made the pipe behind it.
 pub(crate) fn open_source<'a, 'h>(host: Host<'h>, path: &'a str) -> Source<'a, Input<'h>> {
     let place = if path_of(path) == STDIN_PATH {
-        Place::Stdin(host.rt.stdin())
+        Origin::Stdin(host.rt.stdin())
     } else {
         match fs::open(host.rt, path) {
-            Ok(file) => Place::File(file),
-            Err(error) => Place::Unreadable(error),
+            Ok(file) => Origin::File(file),
+            Err(error) => Origin::Unreadable(error),
         }
     };
     let refusals = host.refusals;

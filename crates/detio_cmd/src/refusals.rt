@@ -38,12 +38,12 @@ pub(crate) struct Host<'h> {
 
 // A reader whose failures are noted. An interrupted read is none.
 #[derive(Drop)]
-pub(crate) struct Noted<'a, R> {
+pub(crate) struct NotedReads<'a, R> {
     pub reader: &'a mut R,
     pub refusals: &'a Refusals,
 }
 
-impl<R: Read> Read for Noted<'_, R> {
+impl<R: Read> Read for NotedReads<'_, R> {
     fn read(&mut self, buffer: &mut [u8]) -> io::Result<usize> {
         let read = self.reader.read(buffer);
         match &read {

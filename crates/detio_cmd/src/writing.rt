@@ -1,7 +1,7 @@
 use crate::output::Output;
 use crate::refusals::Host;
 use commands::{cannot_write, print};
-use explore_commands::ToWrite;
+use explore_commands::ScriptsToWrite;
 use posix_terms::Bytes;
 use std::alloc::AllocError;
 use std::fs::{self, File};
@@ -11,13 +11,13 @@ use std::io::Write;
 // their paths; with them the log of their run, where outcomes came from a log.
 pub(crate) fn write_scripts(
     host: Host<'_>,
-    to_write: ToWrite,
+    to_write: ScriptsToWrite,
     folder: &str,
     by_log: bool,
 ) -> Result<u8, AllocError> {
     let (texts, log) = match to_write {
-        ToWrite::Texts(texts, log) => (texts, log),
-        ToWrite::Fault(printed) => {
+        ScriptsToWrite::Texts(texts, log) => (texts, log),
+        ScriptsToWrite::Fault(printed) => {
             return Ok(print(&printed, &mut Output::new(host), &mut host.rt.stderr()).unwrap_or(4));
         }
     };
@@ -39,10 +39,10 @@ pub(crate) fn write_scripts(
 }
 
 // Writes the log of a run to a new file.
-pub(crate) fn write_log(host: Host<'_>, to_write: ToWrite, path: &str) -> u8 {
+pub(crate) fn write_log(host: Host<'_>, to_write: ScriptsToWrite, path: &str) -> u8 {
     match to_write {
-        ToWrite::Texts(_, log) => { if write_new(host, path, &log) { 0 } else { 4 } }
-        ToWrite::Fault(printed) => {
+        ScriptsToWrite::Texts(_, log) => { if write_new(host, path, &log) { 0 } else { 4 } }
+        ScriptsToWrite::Fault(printed) => {
             print(&printed, &mut Output::new(host), &mut host.rt.stderr()).unwrap_or(4)
         }
     }

@@ -14,7 +14,7 @@ use Rattle.explore_commands.specs.Tries.{Tries}
 use Rattle.explore_commands.specs.Writes.{FaultWrites, IsNotWritten, SubjectWrites}
 use Rattle.explore_commands.specs.declared.trying.ToTry.{ToTry}
 use Rattle.explore_commands.specs.declared.trying.ToTry.TheVariants as tries
-use Rattle.explore_commands.specs.declared.writing.ToWrite.{ToWrite}
+use Rattle.explore_commands.specs.declared.writing.ScriptsToWrite.{ScriptsToWrite}
 
 -- all replies are as expected
 abbrev pub not_failing : Printed
@@ -22,24 +22,24 @@ not_failing = fault_printed 3 (codes "every reply is as expected: there is nothi
 
 -- what is written of a subject that fails so: what is kept of it, which fails the same, and without
 -- any of its lines or threads does not
-abbrev pub TargetMinimises : Subject → Target → ToWrite → Type 0
+abbrev pub TargetMinimises : Subject → Target → ScriptsToWrite → Type 0
 TargetMinimises subject target write =
     (kept : Kept) × IsMinimal subject target kept
     × SubjectWrites (kept_subject subject kept) write
 
 -- what is printed where it does not fail: it was run, or not
-abbrev pub NothingMinimises : Subject → ToWrite → Type 0
+abbrev pub NothingMinimises : Subject → ScriptsToWrite → Type 0
 NothingMinimises subject write =
     ((plain : Plain) × IsRun subject plain × IsNotWritten not_failing write)
     ⊎ FaultWrites subject write
 
-abbrev pub SubjectMinimises : Subject → ToWrite → Type 0
+abbrev pub SubjectMinimises : Subject → ScriptsToWrite → Type 0
 SubjectMinimises subject write =
     ((target : Target) × Fails subject target × TargetMinimises subject target write)
     ⊎ (((target : Target) → ¬ (Fails subject target)) × NothingMinimises subject write)
 
 -- what is written of what is to be tried
-abbrev pub TryMinimises : ToTry → ToWrite → Type 0
+abbrev pub TryMinimises : ToTry → ScriptsToWrite → Type 0
 TryMinimises (tries.Texts texts outcomes settings) write =
     SubjectMinimises
     (record { texts = texts.items; outcomes = outcomes.items; settings = settings }) write
@@ -47,6 +47,6 @@ TryMinimises (tries.Fault fault) write = IsNotWritten fault write
 
 -- what is written of these sources, and of that of a log, if one is given
 abbrev pub Minimises : Settings → Option (List ℕ × Option (List ℕ))
-    → List (List ℕ × Option (List ℕ)) → ToWrite → Type 0
+    → List (List ℕ × Option (List ℕ)) → ScriptsToWrite → Type 0
 Minimises settings log sources write =
     (try : ToTry) × Tries settings log sources try × TryMinimises try write

@@ -9,7 +9,7 @@ use crate::trying::{ToTry, to_try};
 use command_inputs::{bad_settings, needs_scripts};
 use command_texts::{Printed, Source, TextReader, bad_line, fault, no_memory, print};
 use explore_texts::{Schedule, Schedules, cut_of, explored_printed, findings, unmet_in};
-use explorer::{Observation, Progress, RunFault, Trial, Workers};
+use explorer::{Observation, ReportsProgress, RunFault, Trial, Workers};
 use posix_terms::Settings;
 use std::alloc::{AllocError, Global};
 use std::io;
@@ -38,7 +38,7 @@ pub struct ExploreOptions {
 /// output cannot be written, that is the fault. `progress` is called after each batch of
 /// [`Workers::at_a_time`] runs, and once before anything is printed. An error is one of the writer
 /// `errors`.
-pub fn explore_over<T: Threads + Sync, R: TextReader + Drop, P: Progress, W: Write, E: Write>(
+pub fn explore_over<T: Threads + Sync, R: TextReader + Drop, P: ReportsProgress, W: Write, E: Write>(
     workers: &Workers<'_, T>,
     alloc: Global,
     settings: Settings,
@@ -66,7 +66,7 @@ pub fn explore_over<T: Threads + Sync, R: TextReader + Drop, P: Progress, W: Wri
 }
 
 // What is to be printed.
-fn explore_printed<T: Threads + Sync, R: TextReader + Drop, P: Progress>(
+fn explore_printed<T: Threads + Sync, R: TextReader + Drop, P: ReportsProgress>(
     workers: &Workers<'_, T>,
     alloc: Global,
     settings: Settings,
@@ -94,7 +94,7 @@ fn explore_printed<T: Threads + Sync, R: TextReader + Drop, P: Progress>(
 }
 
 // What is to be printed for a trial.
-fn trial_explored<T: Threads + Sync, P: Progress>(
+fn trial_explored<T: Threads + Sync, P: ReportsProgress>(
     workers: &Workers<'_, T>,
     alloc: Global,
     trial: Trial<'_>,
@@ -112,7 +112,7 @@ fn trial_explored<T: Threads + Sync, P: Progress>(
 }
 
 // What is to be printed for a trial with these delays.
-fn scheduled_explored<T: Threads + Sync, P: Progress>(
+fn scheduled_explored<T: Threads + Sync, P: ReportsProgress>(
     workers: &Workers<'_, T>,
     alloc: Global,
     trial: Trial<'_>,
@@ -129,7 +129,7 @@ fn scheduled_explored<T: Threads + Sync, P: Progress>(
 }
 
 // What is to be printed where this was seen in the run without delays.
-fn seen_explored<T: Threads + Sync, P: Progress>(
+fn seen_explored<T: Threads + Sync, P: ReportsProgress>(
     workers: &Workers<'_, T>,
     alloc: Global,
     trial: Trial<'_>,

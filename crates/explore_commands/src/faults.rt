@@ -15,7 +15,7 @@ use crate::trying::{ToTry, to_try_by_log};
 use call_machine::Plain;
 use command_texts::{Printed, Source, TextReader, no_memory, print};
 use explore_texts::{Finding, cases_printed, cut_of, found, push_case, unmet_in};
-use explorer::{Observation, Progress, RunFault, Trial, Workers};
+use explorer::{Observation, ReportsProgress, RunFault, Trial, Workers};
 use fault_injection::{Choice, FaultCase, Filling, fault_cases, run_fault, run_filled};
 use std::alloc::{AllocError, Global};
 use std::io;
@@ -43,7 +43,7 @@ pub struct FaultOptions<'a> {
 /// the output cannot be written, that is the fault. `progress` is called after each batch of
 /// [`Workers::at_a_time`] cases, and once before anything is printed. An error is one of the writer
 /// `errors`.
-pub fn faults_over<T: Threads + Sync, R: TextReader + Drop, P: Progress, W: Write, E: Write>(
+pub fn faults_over<T: Threads + Sync, R: TextReader + Drop, P: ReportsProgress, W: Write, E: Write>(
     workers: &Workers<'_, T>,
     alloc: Global,
     options: FaultOptions<'_>,
@@ -70,7 +70,7 @@ pub fn faults_over<T: Threads + Sync, R: TextReader + Drop, P: Progress, W: Writ
 }
 
 // What is to be printed.
-fn faults_read<T: Threads + Sync, R: TextReader + Drop, P: Progress>(
+fn faults_read<T: Threads + Sync, R: TextReader + Drop, P: ReportsProgress>(
     workers: &Workers<'_, T>,
     alloc: Global,
     options: FaultOptions<'_>,
@@ -97,7 +97,7 @@ fn faults_read<T: Threads + Sync, R: TextReader + Drop, P: Progress>(
 }
 
 // What is to be printed for a trial.
-fn trial_tried<T: Threads + Sync, P: Progress>(
+fn trial_tried<T: Threads + Sync, P: ReportsProgress>(
     workers: &Workers<'_, T>,
     alloc: Global,
     options: FaultOptions<'_>,
@@ -113,7 +113,7 @@ fn trial_tried<T: Threads + Sync, P: Progress>(
 }
 
 // What is to be printed where this was seen in the run by the outcomes as they are.
-fn seen_tried<T: Threads + Sync, P: Progress>(
+fn seen_tried<T: Threads + Sync, P: ReportsProgress>(
     workers: &Workers<'_, T>,
     alloc: Global,
     options: FaultOptions<'_>,
@@ -139,7 +139,7 @@ fn seen_tried<T: Threads + Sync, P: Progress>(
 }
 
 // What is found of cases, in order.
-fn cases_found<T: Threads + Sync, P: Progress>(
+fn cases_found<T: Threads + Sync, P: ReportsProgress>(
     workers: &Workers<'_, T>,
     alloc: Global,
     filling: Option<Filling>,

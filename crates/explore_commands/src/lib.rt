@@ -3,7 +3,7 @@
 //!
 //! [`explore_over`] runs scripts with the delays of many seeds or lists, by [`ExploreOptions`], and
 //! prints what is found. [`faults_over`] runs them with the failures and short counts of
-//! [`FaultOptions`] in place of the outcomes of a log. What a command writes is a [`ToWrite`], the
+//! [`FaultOptions`] in place of the outcomes of a log. What a command writes is a [`ScriptsToWrite`], the
 //! texts of scripts and the log of their plain run: [`to_write`] gives those of scripts with the
 //! delays of the first case, [`to_write_case`] those of scripts with one outcome replaced, and
 //! [`to_minimise`] what is left of scripts that fail once all lines and threads are gone that the
@@ -25,7 +25,7 @@ mod writing;
 pub use case_log::to_write_case;
 pub use explore::{ExploreOptions, explore_over};
 pub use explore_texts::Schedules;
-pub use explorer::{Progress, Workers};
+pub use explorer::{ReportsProgress, Workers};
 pub use faults::{FaultOptions, MOST_FILLED, faults_over};
 pub use minimise::to_minimise;
-pub use writing::{ToWrite, to_write};
+pub use writing::{ScriptsToWrite, to_write};

@@ -7,7 +7,7 @@ ghost use Rattle.explore_commands.specs.Writes.{SubjectWrites};
 
 use crate::explore::fault_printed;
 use crate::trying::{ToTry, to_try};
-use crate::writing::{ToWrite, run_written};
+use crate::writing::{ScriptsToWrite, run_written};
 use command_texts::{Printed, Source, TextReader, fault};
 use explorer::Trial;
 use minimiser::{Reduction, find_target, minimised};
@@ -24,7 +24,7 @@ pub fn to_minimise<R: TextReader + Drop>(
     settings: Settings,
     log: Option<Source<'_, R>>,
     sources: Vec<Source<'_, R>>,
-) -> Result<ToWrite, AllocError>
+) -> Result<ScriptsToWrite, AllocError>
     ensures { IfOk result (
         Minimises settings
         (option_map (λ s. (s.path.now, R.remaining s.reader)) log.entry)
@@ -39,12 +39,12 @@ pub fn to_minimise<R: TextReader + Drop>(
             };
             trial_minimised(alloc, trial)
         }
-        ToTry::Fault(printed) => Ok(ToWrite::Fault(printed)),
+        ToTry::Fault(printed) => Ok(ScriptsToWrite::Fault(printed)),
     }
 }
 
 // What is written of a trial.
-fn trial_minimised(alloc: Global, trial: Trial<'_>) -> Result<ToWrite, AllocError>
+fn trial_minimised(alloc: Global, trial: Trial<'_>) -> Result<ScriptsToWrite, AllocError>
     ensures { IfOk result (SubjectMinimises (subject trial.entry)) }
 {
     let Some(target) = find_target(alloc, trial)? else {
@@ -58,7 +58,7 @@ fn trial_minimised(alloc: Global, trial: Trial<'_>) -> Result<ToWrite, AllocErro
 }
 
 // What is written of what is kept.
-fn kept_written(alloc: Global, trial: Trial<'_>, kept: &Reduction) -> Result<ToWrite, AllocError>
+fn kept_written(alloc: Global, trial: Trial<'_>, kept: &Reduction) -> Result<ScriptsToWrite, AllocError>
     ensures { IfOk result (SubjectWrites (kept_subject (subject trial.entry) kept.now)) }
 {
     let texts = kept.texts(alloc, trial.texts)?;
@@ -67,12 +67,12 @@ fn kept_written(alloc: Global, trial: Trial<'_>, kept: &Reduction) -> Result<ToW
 }
 
 // What is printed for a trial that does not fail.
-fn nothing_minimised(alloc: Global, trial: Trial<'_>) -> Result<ToWrite, AllocError>
+fn nothing_minimised(alloc: Global, trial: Trial<'_>) -> Result<ScriptsToWrite, AllocError>
     ensures { IfOk result (NothingMinimises (subject trial.entry)) }
 {
     match trial.run(alloc) {
-        Ok(_) => Ok(ToWrite::Fault(not_failing(alloc)?)),
-        Err(fault) => Ok(ToWrite::Fault(fault_printed(alloc, fault)?)),
+        Ok(_) => Ok(ScriptsToWrite::Fault(not_failing(alloc)?)),
+        Err(fault) => Ok(ScriptsToWrite::Fault(fault_printed(alloc, fault)?)),
     }
 }
 

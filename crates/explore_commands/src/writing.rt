@@ -12,7 +12,7 @@ use std::alloc::{AllocError, Global};
 
 /// What a command writes of scripts.
 #[derive(Drop)]
-pub enum ToWrite {
+pub enum ScriptsToWrite {
     /// The texts of the threads, and the log of their plain run.
     Texts(Vec<Bytes>, Bytes),
     /// Nothing: this is printed for the first fault.
@@ -29,7 +29,7 @@ pub fn to_write<R: TextReader + Drop>(
     options: ExploreOptions,
     log: Option<Source<'_, R>>,
     sources: Vec<Source<'_, R>>,
-) -> Result<ToWrite, AllocError>
+) -> Result<ScriptsToWrite, AllocError>
     ensures { IfOk result (
         Writes settings options
         (option_map (λ s. (s.path.now, R.remaining s.reader)) log.entry)
@@ -44,7 +44,7 @@ pub fn to_write<R: TextReader + Drop>(
             };
             trial_written(alloc, trial, options)
         }
-        ToTry::Fault(printed) => Ok(ToWrite::Fault(printed)),
+        ToTry::Fault(printed) => Ok(ScriptsToWrite::Fault(printed)),
     }
 }
 
@@ -53,7 +53,7 @@ fn trial_written(
     alloc: Global,
     trial: Trial<'_>,
     options: ExploreOptions,
-) -> Result<ToWrite, AllocError>
+) -> Result<ScriptsToWrite, AllocError>
     ensures { IfOk result (TrialWrites options (subject trial.entry)) }
 {
     match to_schedule(alloc, options, trial.texts)? {
@@ -61,7 +61,7 @@ fn trial_written(
             let varied = varied_texts(alloc, &schedule, options.first, trial.texts)?;
             run_written(alloc, varied, trial.outcomes, trial.settings)
         }
-        ToSchedule::Fault(printed) => Ok(ToWrite::Fault(printed)),
+        ToSchedule::Fault(printed) => Ok(ScriptsToWrite::Fault(printed)),
     }
 }
 
@@ -71,7 +71,7 @@ pub fn run_written(
     texts: Vec<Bytes>,
     outcomes: &[Outcomes],
     settings: Settings,
-) -> Result<ToWrite, AllocError>
+) -> Result<ScriptsToWrite, AllocError>
     ensures { IfOk result (SubjectWrites (record {
       texts = texts.items;
       outcomes = outcomes.now;
@@ -84,7 +84,7 @@ pub fn run_written(
         settings,
     };
     match trial.run(alloc) {
-        Ok(plain) => Ok(ToWrite::Texts(texts, plain.log)),
-        Err(fault) => Ok(ToWrite::Fault(fault_printed(alloc, fault)?)),
+        Ok(plain) => Ok(ScriptsToWrite::Texts(texts, plain.log)),
+        Err(fault) => Ok(ScriptsToWrite::Fault(fault_printed(alloc, fault)?)),
     }
 }

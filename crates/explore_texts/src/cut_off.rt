@@ -7,7 +7,7 @@ ghost use Rattle.explore_texts.specs.CutOffs.{cut_of, cut_text, cut_threads, if_
 
 use command_texts::{push_number, push_word};
 use expectations::is_cut_off;
-use explorer::{Ended, Observation};
+use explorer::{EndedThreads, Observation};
 use posix_terms::{Bytes, Row, Transcript};
 use std::alloc::{AllocError, Global};
 use thread_scripts::{ScriptFault, parse};
@@ -29,7 +29,7 @@ fn cut_threads(
     alloc: Global,
     texts: &[Bytes],
     seen: &[Transcript],
-    ended: &Ended,
+    ended: &EndedThreads,
 ) -> Result<Vec<usize>, AllocError>
     ensures { IfOk result (λ cut. cut.items ≡ cut_threads ended.now 0 texts.now seen.now) }
 {

@@ -22,7 +22,7 @@ use Rattle.explorer.specs.Lists.{one_of}
 use Rattle.explorer.specs.Lists.{pairs_among, two_of}
 use Rattle.explorer.specs.ListCounts.{list_count, pair_count}
 use Rattle.explorer.specs.declared.delay_list.Delay.{Delay}
-use Rattle.explorer.specs.declared.places.Place.{Place}
+use Rattle.explorer.specs.declared.places.CallPlace.{CallPlace}
 
 -- ## Pieces of one length
 
@@ -48,15 +48,15 @@ in_piece f n each xs i j e d within inside =
 
 -- ## One delay
 
-pub at_one_place : (reach : ℕ) (place : Place) → length (delays_at reach place) ≡ reach
+pub at_one_place : (reach : ℕ) (place : CallPlace) → length (delays_at reach place) ≡ reach
 at_one_place reach place = length-map-range_with_len (delay_of place) 1 reach
 
-pub length_among : (reach : ℕ) (places : List Place)
+pub length_among : (reach : ℕ) (places : List CallPlace)
     → length (delays_among reach places) ≡ length places * reach
 length_among reach places = length_of_pieces (delays_at reach) reach (at_one_place reach) places
 
 -- a place and the units there
-one_among : (reach : ℕ) (places : List Place) (i j : ℕ) (e : Place) (d : Delay)
+one_among : (reach : ℕ) (places : List CallPlace) (i j : ℕ) (e : CallPlace) (d : Delay)
     → i < length places → j < reach
     → get_or (delays_among reach places) (i * reach + j) d ≡ delay_of (get_or places i e) (1 + j)
 one_among reach places i j e d within inside =
@@ -64,8 +64,8 @@ one_among reach places i j e d within inside =
     ∙ get_or-map-range_with_len (delay_of (get_or places i e)) 1 reach j (1 + j) d inside refl
 
 -- that with this number, if there are so many
-among_by : (reach : ℕ) (places : List Place) (at : ℕ) → 0 < reach
-    → ((place : Place) × (at / reach < length places)
+among_by : (reach : ℕ) (places : List CallPlace) (at : ℕ) → 0 < reach
+    → ((place : CallPlace) × (at / reach < length places)
     × (slice_get places (at / reach) ≡ Some place) × (get_or places (at / reach) place ≡ place))
     ⊎ ((length places ≤ at / reach) × (slice_get places (at / reach) ≡ None))
     → slice_get (delays_among reach places) at
@@ -90,14 +90,14 @@ among_by reach places at some (inr (past, none)) =
     (omega (arith, length_among reach places, whole, div-add-mod' at reach))
     ∙ sym (ap (option_map (λ place. delay_of place (1 + at % reach))) none)
 
-pub among_at : (reach : ℕ) (places : List Place) (at : ℕ) → 0 < reach
+pub among_at : (reach : ℕ) (places : List CallPlace) (at : ℕ) → 0 < reach
     → slice_get (delays_among reach places) at
     ≡ option_map (λ place. delay_of place (1 + at % reach)) (slice_get places (at / reach))
 among_at reach places at some =
     among_by reach places at some (slice_get_cases places (at / reach)).1
 
 -- with no reach there is none
-pub none_among : (reach : ℕ) (places : List Place) (at : ℕ) → reach ≡ 0
+pub none_among : (reach : ℕ) (places : List CallPlace) (at : ℕ) → reach ≡ 0
     → slice_get (delays_among reach places) at ≡ None
 none_among reach places at none =
     let no_length : length (delays_among reach places) ≡ 0 =
@@ -134,16 +134,16 @@ factor_le reach n some =
 
 -- ## All lists
 
-pub pairs_at : (reach : ℕ) → Place → List Place → List (List Delay)
+pub pairs_at : (reach : ℕ) → CallPlace → List CallPlace → List (List Delay)
 pairs_at reach place rest =
     flat_map (λ delay. map (two_of delay) (delays_among reach rest)) (delays_at reach place)
 
-pairs_each : (reach : ℕ) (rest : List Place) (delay : Delay)
+pairs_each : (reach : ℕ) (rest : List CallPlace) (delay : Delay)
     → length (map (two_of delay) (delays_among reach rest)) ≡ length rest * reach
 pairs_each reach rest delay =
     length-map (delays_among reach rest) (two_of delay) ∙ length_among reach rest
 
-pub length_at : (reach : ℕ) (place : Place) (rest : List Place)
+pub length_at : (reach : ℕ) (place : CallPlace) (rest : List CallPlace)
     → length (pairs_at reach place rest) ≡ reach * (length rest * reach)
 unfolding pairs_at
 length_at reach place rest =
@@ -151,7 +151,7 @@ length_at reach place rest =
     (pairs_each reach rest) (delays_at reach place)
     ∙ ap (λ n. n * (length rest * reach)) (at_one_place reach place)
 
-pub pairs_length : (reach : ℕ) (places : List Place)
+pub pairs_length : (reach : ℕ) (places : List CallPlace)
     → length (pairs_among reach places) ≡ pair_count reach (length places)
 unfolding pairs_at
 pairs_length reach [] = refl
@@ -159,7 +159,7 @@ pairs_length reach (place ∷ rest) =
     length-append (pairs_at reach place rest) (pairs_among reach rest)
     ∙ omega (arith, length_at reach place rest, pairs_length reach rest)
 
-pub lists_length : (places : List Place) (reach : ℕ) (two : Bool)
+pub lists_length : (places : List CallPlace) (reach : ℕ) (two : Bool)
     → length (lists_of (record { places = places; reach = reach; two = two }))
     ≡ list_count (length places) reach two
 lists_length places reach two = all two
@@ -183,7 +183,7 @@ some_factor reach zero left inside = absurd (omega (arith, inside, mul-zero reac
 some_factor reach (suc n) left inside = omega arith
 
 -- those at a place and one after it
-pub pair_here : (reach : ℕ) (place : Place) (rest : List Place) (left : ℕ)
+pub pair_here : (reach : ℕ) (place : CallPlace) (rest : List CallPlace) (left : ℕ)
     → left < reach * (length rest * reach)
     → delay_of place (1 + left / (length rest * reach))
     ∷ cons_option (slice_get (delays_among reach rest) (left % (length rest * reach))) []
@@ -220,14 +220,14 @@ others_fit (suc k) n more fits =
     omega (arith, fits, factor_le (suc k) (n * suc k) (omega arith))
 
 -- the lists of two delays at a place and those after it, and then those at the others
-pub one_place_on : (reach : ℕ) (places : List Place) (i : ℕ) (d : Place) → i < length places
+pub one_place_on : (reach : ℕ) (places : List CallPlace) (i : ℕ) (d : CallPlace) → i < length places
     → pairs_among reach (drop i places)
     ≡ pairs_at reach (get_or places i d) (drop (i + 1) places)
     ++ pairs_among reach (drop (i + 1) places)
 unfolding pairs_at
 one_place_on reach places i d inside = at_drop_more (pairs_among reach) places i d inside
 
-pub length_on : (reach : ℕ) (places : List Place) (i : ℕ) (d : Place) → i < length places
+pub length_on : (reach : ℕ) (places : List CallPlace) (i : ℕ) (d : CallPlace) → i < length places
     → length (pairs_among reach (drop i places))
     ≡ reach * (length (drop (i + 1) places) * reach)
     + length (pairs_among reach (drop (i + 1) places))
@@ -239,7 +239,7 @@ length_on reach places i d inside =
     ∙ ap (λ n. n + length (pairs_among reach rest)) (length_at reach place rest)
 
 -- the list is there, or among those of the others
-pub found_here : (reach : ℕ) (places : List Place) (i left : ℕ) (d : Place)
+pub found_here : (reach : ℕ) (places : List CallPlace) (i left : ℕ) (d : CallPlace)
     → i < length places → left < reach * (length (drop (i + 1) places) * reach)
     → get_or (pairs_among reach (drop i places)) left []
     ≡ get_or (pairs_at reach (get_or places i d) (drop (i + 1) places)) left []
@@ -251,7 +251,7 @@ found_here reach places i left d inside here =
     ap (λ l. get_or l left []) (one_place_on reach places i d inside)
     ∙ get_or_append_left (pairs_at reach place rest) (pairs_among reach rest) [] left within
 
-pub found_later : (reach : ℕ) (places : List Place) (i left : ℕ) (d : Place)
+pub found_later : (reach : ℕ) (places : List CallPlace) (i left : ℕ) (d : CallPlace)
     → i < length places → reach * (length (drop (i + 1) places) * reach) ≤ left
     → get_or (pairs_among reach (drop i places)) left []
     ≡ get_or (pairs_among reach (drop (i + 1) places))
@@ -265,11 +265,11 @@ found_later reach places i left d inside past =
 
 -- ## The list of a case
 
-abbrev pub bounds_of : List Place → ℕ → Bool → Bounds
+abbrev pub bounds_of : List CallPlace → ℕ → Bool → Bounds
 bounds_of places reach two = record { places = places; reach = reach; two = two }
 
 -- one of one delay
-pub case_of_one : (places : List Place) (reach : ℕ) (two : Bool) (case : ℕ) → 0 < case
+pub case_of_one : (places : List CallPlace) (reach : ℕ) (two : Bool) (case : ℕ) → 0 < case
     → case ≤ length places * reach
     → cons_option (slice_get (delays_among reach places) (case - 1)) []
     ≡ list_of (bounds_of places reach two) case
@@ -288,7 +288,7 @@ case_of_one places reach two (suc at) some within =
     ∙ get_or-map one_of all at d [] inside))
 
 -- one of two delays
-pub case_of_two : (places : List Place) (reach : ℕ) (two : Bool) (case : ℕ) → two ≡ true
+pub case_of_two : (places : List CallPlace) (reach : ℕ) (two : Bool) (case : ℕ) → two ≡ true
     → length places * reach < case
     → get_or (pairs_among reach places) (case - 1 - length places * reach) []
     ≡ list_of (bounds_of places reach two) case
@@ -312,7 +312,7 @@ has_two places reach count case true is below past = refl
 has_two places reach count case false is below past = absurd (omega (arith, is, below, past))
 
 -- and so many that they fit
-pub pairs_fit : (places : List Place) (reach count : ℕ) (two : Bool) → two ≡ true
+pub pairs_fit : (places : List CallPlace) (reach count : ℕ) (two : Bool) → two ≡ true
     → count ≡ list_count (length places) reach two → count < 2 ^ 64
     → length (pairs_among reach places) < 2 ^ 64
 pairs_fit places reach count false is same fits = absurd (cc is)

@@ -5,25 +5,25 @@ use Rattle.std.specs.Prelude.{Option, Some, None, if◌then◌else◌}
 use Rattle.std.specs.List.{cons_option, flat_map, range_with_len}
 use Rattle.thread_scripts.specs.Words.{lines_of}
 use Rattle.expectations.specs.Expected.{is_call}
-use Rattle.explorer.specs.declared.places.Place.{Place}
+use Rattle.explorer.specs.declared.places.CallPlace.{CallPlace}
 use Rattle.explorer.specs.declared.delay_list.Delay.{Delay}
 use Rattle.explorer.specs.declared.delay_list.DelayList.{DelayList}
 
 -- ## Where a call can be delayed
 
 -- this line of a thread, if it is that of a call
-abbrev pub place_at : ℕ → ℕ → List ℕ → List Place
+abbrev pub place_at : ℕ → ℕ → List ℕ → List CallPlace
 place_at thread line text =
     if is_call text then record { thread = thread; line = line } ∷ [] else []
 
 -- those of these lines, with so many lines above the first
-abbrev pub places_in : ℕ → ℕ → List (List ℕ) → List Place
+abbrev pub places_in : ℕ → ℕ → List (List ℕ) → List CallPlace
 places_in thread above [] = []
 places_in thread above (line ∷ lines) =
     place_at thread (above + 1) line ++ places_in thread (above + 1) lines
 
 -- those of these texts, the first of which is that of this thread
-abbrev pub places_of : ℕ → List (List ℕ) → List Place
+abbrev pub places_of : ℕ → List (List ℕ) → List CallPlace
 places_of thread [] = []
 places_of thread (text ∷ texts) =
     places_in thread 0 (lines_of text) ++ places_of (thread + 1) texts
@@ -33,25 +33,25 @@ places_of thread (text ∷ texts) =
 -- what lists are made of: the places, how long a delay is at most, and whether there are two in a
 -- list
 pub record Bounds : Type 0 where
-  pub places : List Place
+  pub places : List CallPlace
   pub reach : ℕ
   pub two : Bool
 
 -- the delays at a place: of one unit, of two, up to the reach
-abbrev pub delay_of : Place → ℕ → Delay
+abbrev pub delay_of : CallPlace → ℕ → Delay
 delay_of place units = record { place = place; units = units }
 
-abbrev pub delays_at : ℕ → Place → List Delay
+abbrev pub delays_at : ℕ → CallPlace → List Delay
 delays_at reach place = map (delay_of place) (range_with_len 1 reach)
 
-abbrev pub delays_among : ℕ → List Place → List Delay
+abbrev pub delays_among : ℕ → List CallPlace → List Delay
 delays_among reach places = flat_map (delays_at reach) places
 
 -- the lists of two delays at two places
 abbrev pub two_of : Delay → Delay → List Delay
 two_of delay other = delay ∷ other ∷ []
 
-abbrev pub pairs_among : ℕ → List Place → List (List Delay)
+abbrev pub pairs_among : ℕ → List CallPlace → List (List Delay)
 pairs_among reach [] = []
 pairs_among reach (place ∷ places) =
     flat_map (λ delay. map (two_of delay) (delays_among reach places)) (delays_at reach place)

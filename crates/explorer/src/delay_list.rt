@@ -1,12 +1,12 @@
 ghost use Rattle.std.specs.Prelude.{◌≡◌, ◌==◌, ◌&&◌, []};
 ghost use Rattle.explorer.specs.Lists.{delay_in, delays_in};
 
-use crate::places::Place;
+use crate::places::CallPlace;
 
 /// A call is delayed by so many units of its thread's clock.
 #[derive(Clone, Copy, Debug, PartialEq, Eq)]
 pub struct Delay {
-    pub place: Place,
+    pub place: CallPlace,
     pub units: u64,
 }
 

@@ -9,11 +9,11 @@ use std::marker::Model;
 /// Which threads of a run had ended when it was over. Contracts see a list: of each thread, whether
 /// it had.
 #[derive(Debug, Drop)]
-pub struct Ended {
+pub struct EndedThreads {
     threads: Vec<bool>,
 }
 
-impl Model for Ended {
+impl Model for EndedThreads {
     ghost use Rattle.std.specs.Prelude.{Bool, List};
 
     ghost Value = { List Bool };
@@ -21,16 +21,16 @@ impl Model for Ended {
     ghost view = { λ e. e.threads.items };
 }
 
-impl Ended {
+impl EndedThreads {
     // Those of threads that asked these steps.
-    pub(crate) fn new(alloc: Global, asked: &Asked) -> Result<Ended, AllocError>
+    pub(crate) fn new(alloc: Global, asked: &Asked) -> Result<EndedThreads, AllocError>
         ensures { IfOk result (λ ended. ended ≡ map has_ended asked.now) }
     {
         let mut threads = Vec::with_capacity(alloc, asked.len())?;
         for thread in 0..asked.len() {
             threads.push(matches!(asked.steps(thread).last(), Some(Step::End)))?;
         }
-        Ok(Ended { threads })
+        Ok(EndedThreads { threads })
     }
 
     /// Whether this thread had. Where there is no such thread, it had not.
@@ -41,7 +41,7 @@ impl Ended {
     }
 
     // Whether the same threads had.
-    pub(crate) fn is_same(&self, other: &Ended) -> bool
+    pub(crate) fn is_same(&self, other: &EndedThreads) -> bool
         ensures { IsTrue result ↔ (self.now ≡ other.now) }
     {
         self.threads.as_slice() == other.threads.as_slice()

@@ -12,7 +12,7 @@
 //! what comes for them from outside, and the settings: [`Trial::run`] is its plain run, and
 //! [`Trial::explored`] runs it with each case of a range, and gives the [`Group`]s of the runs in
 //! which the threads saw the same. An [`Observation`] is what they saw, their calls and replies
-//! without the clocks of the turns, which of them had [`Ended`], and why the run stopped. By the
+//! without the clocks of the turns, which of them had [`EndedThreads`], and why the run stopped. By the
 //! contract there is one plain run for each case, in order, and each is counted in one group. A
 //! [`RunFault`] says why there was none. Each run takes outcomes of its own, which
 //! [`outcomes_copied`] gives.
@@ -74,14 +74,14 @@ pub use chance::Chance;
 pub use copies::{given_copied, outcomes_copied};
 pub use delay_list::{Delay, DelayList};
 pub use delays::Delays;
-pub use ended::Ended;
+pub use ended::EndedThreads;
 pub use fault::RunFault;
 pub use groups::{Group, Groups};
 pub use laws::{chances_are_works, lists_are_works, threads_make_calls, varied_is_script};
 pub use lists::Lists;
 pub use observation::Observation;
-pub use places::Place;
-pub use progress::{NoProgress, Progress};
+pub use places::CallPlace;
+pub use progress::{NoProgress, ReportsProgress};
 pub use runs::run_texts;
 pub use trial::Trial;
 pub use vary::{varied, varied_texts};

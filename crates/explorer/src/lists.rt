@@ -6,7 +6,7 @@ ghost use Rattle.explorer.specs.ListCounts.{list_count, pair_count};
 
 use crate::delay_list::{Delay, DelayList};
 use crate::delays::Delays;
-use crate::places::{Place, places_of};
+use crate::places::{CallPlace, places_of};
 use posix_terms::Bytes;
 use std::alloc::{AllocError, Global};
 use std::marker::Model;
@@ -15,7 +15,7 @@ use std::marker::Model;
 /// calls. Contracts see the places, the reach, and whether there are lists of two.
 #[derive(Debug, Drop)]
 pub struct Lists {
-    places: Vec<Place>,
+    places: Vec<CallPlace>,
     reach: u64,
     two: bool,
     count: u64,
@@ -98,7 +98,7 @@ impl Lists {
 }
 
 // The delay with this number of those at places, if there are so many.
-fn delay_among(places: &[Place], reach: u64, at: u64) -> Option<Delay>
+fn delay_among(places: &[CallPlace], reach: u64, at: u64) -> Option<Delay>
     ensures { result ≡ slice_get (delays_among reach places.now) at }
 {
     if reach == 0 {
@@ -114,7 +114,7 @@ fn delay_among(places: &[Place], reach: u64, at: u64) -> Option<Delay>
 }
 
 // The list with this number of those of two delays at places.
-fn pair_among(places: &[Place], reach: u64, at: u64) -> DelayList
+fn pair_among(places: &[CallPlace], reach: u64, at: u64) -> DelayList
     requires { length (pairs_among reach places.now) < 2 ^ 64 }
     ensures { delays_in result ≡ slice_index_or (pairs_among reach places.now) at [] }
 {
@@ -139,7 +139,7 @@ fn pair_among(places: &[Place], reach: u64, at: u64) -> DelayList
 }
 
 // The places after this one.
-fn after(places: &[Place], i: usize) -> &[Place]
+fn after(places: &[CallPlace], i: usize) -> &[CallPlace]
     requires { i < length places.now }
     ensures { result.now ≡ drop (i + 1) places.now }
 {

@@ -1,7 +1,7 @@
 ghost use Rattle.std.specs.Prelude.{◌≡◌, ◌↔◌, IfOk, IsTrue, map};
 ghost use Rattle.explorer.specs.Observations.{EndAlike, clockless, observed, seen_of};
 
-use crate::ended::Ended;
+use crate::ended::EndedThreads;
 use call_machine::{Plain, Stop};
 use comparator::{Verdict, compare};
 use posix_terms::{Row, Transcript, Transcripts, Turn};
@@ -13,7 +13,7 @@ use std::alloc::{AllocError, Global};
 pub struct Observation {
     /// Their calls and replies. The clock of each turn is 0.
     pub seen: Transcripts,
-    pub ended: Ended,
+    pub ended: EndedThreads,
     pub stop: Option<Stop>,
 }
 
@@ -24,7 +24,7 @@ impl Observation {
     {
         Ok(Observation {
             seen: seen(alloc, plain.transcripts.threads())?,
-            ended: Ended::new(alloc, plain.history.asked())?,
+            ended: EndedThreads::new(alloc, plain.history.asked())?,
             stop: plain.stop,
         })
     }

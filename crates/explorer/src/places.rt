@@ -9,13 +9,13 @@ use thread_scripts::text_lines;
 
 /// Where a call can be delayed: a line of a call, counted from 1, in the text of a thread.
 #[derive(Clone, Copy, Debug, PartialEq, Eq)]
-pub struct Place {
+pub struct CallPlace {
     pub thread: usize,
     pub line: usize,
 }
 
 // The places of all texts, by thread and line.
-pub(crate) fn places_of(alloc: Global, texts: &[Bytes]) -> Result<Vec<Place>, AllocError>
+pub(crate) fn places_of(alloc: Global, texts: &[Bytes]) -> Result<Vec<CallPlace>, AllocError>
     ensures { IfOk result (λ places. places.items ≡ places_of 0 texts.now) }
 {
     let mut places = Vec::new(alloc);
@@ -26,7 +26,7 @@ pub(crate) fn places_of(alloc: Global, texts: &[Bytes]) -> Result<Vec<Place>, Al
 }
 
 // Adds those of a thread's text.
-fn push_places(places: &mut Vec<Place>, thread: usize, text: &[u8]) -> Result<(), AllocError>
+fn push_places(places: &mut Vec<CallPlace>, thread: usize, text: &[u8]) -> Result<(), AllocError>
     ensures { OnOk result (
         places.new.items ≡ places.old.items ++ places_in thread 0 (lines_of text.now)) }
 {
@@ -39,7 +39,7 @@ fn push_places(places: &mut Vec<Place>, thread: usize, text: &[u8]) -> Result<()
 
 // Adds that of a line with so many lines above it, if it is a call's.
 fn push_place(
-    places: &mut Vec<Place>,
+    places: &mut Vec<CallPlace>,
     thread: usize,
     above: usize,
     text: &[u8],
@@ -49,7 +49,7 @@ fn push_place(
         places.new.items ≡ places.old.items ++ place_at thread (above + 1) text.now) }
 {
     if is_call_line(*places.allocator(), text)? {
-        places.push(Place {
+        places.push(CallPlace {
             thread,
             line: above + 1,
         })?;

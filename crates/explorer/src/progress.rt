@@ -1,5 +1,5 @@
 /// Receives reports of how many runs of many cases are done. No contract speaks of it.
-pub trait Progress {
+pub trait ReportsProgress {
     /// `runs` of the `of` runs are done, and they have `groups` groups: 0 where runs are not
     /// grouped.
     fn made(&mut self, runs: u64, of: u64, groups: usize);
@@ -12,7 +12,7 @@ pub trait Progress {
 #[derive(Clone, Copy, Debug, PartialEq, Eq)]
 pub struct NoProgress;
 
-impl Progress for NoProgress {
+impl ReportsProgress for NoProgress {
     fn made(&mut self, _runs: u64, _of: u64, _groups: usize) {}
 
     fn ended(&mut self) {}

@@ -10,7 +10,7 @@ use crate::fault::RunFault;
 use crate::groups::Groups;
 use crate::observation::Observation;
 use crate::observing::{join_all, observe_cases};
-use crate::progress::Progress;
+use crate::progress::ReportsProgress;
 use crate::runs::run_copied;
 use crate::vary::varied_texts;
 use crate::workers::Workers;
@@ -34,7 +34,7 @@ impl Trial<'_> {
     /// The groups of the runs of these cases, one run for each, in order. The error is that of the
     /// run of one of them, as for [`run_texts`](crate::run_texts). `progress` is called after each
     /// batch of [`Workers::at_a_time`] runs.
-    pub fn explored<T: Threads + Sync, D: Delays + Sync, P: Progress>(
+    pub fn explored<T: Threads + Sync, D: Delays + Sync, P: ReportsProgress>(
         self,
         workers: &Workers<'_, T>,
         alloc: Global,

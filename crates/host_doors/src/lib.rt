@@ -55,6 +55,6 @@ pub use host::HostDoors;
 pub use log_doors::LogDoors;
 pub use opened::Opened;
 pub use outside::Outside;
-pub use pair::{PairGate, Place};
+pub use pair::{PairGate, OutcomePlace};
 pub use script::{ScriptDoor, ScriptDoors};
 pub use stop::DoorStop;

@@ -1,5 +1,5 @@
 ghost use Rattle.std.specs.Prelude.{◌≡◌, ◌≢◌, false, IfOk};
-ghost use Rattle.host_doors.specs.declared.pair.Held.{Held};
+ghost use Rattle.host_doors.specs.declared.pair.HeldOutcome.{HeldOutcome};
 ghost use Rattle.host_doors.specs.Gates.{MayAnswer};
 
 use crate::gate::Gate;
@@ -12,15 +12,15 @@ use std::time::{Clock, Duration};
 
 /// Where an outcome stands: a thread, and the number of the outcome among those of the thread.
 #[derive(Clone, Copy, Debug, PartialEq, Eq, Hash)]
-pub struct Place {
+pub struct OutcomePlace {
     pub thread: usize,
     pub number: u64,
 }
 
 /// The outcome that a gate holds, and whether it refused a call for it.
 #[derive(Clone, Copy, Debug, PartialEq, Eq, Hash)]
-pub(crate) struct Held {
-    pub(crate) place: Place,
+pub(crate) struct HeldOutcome {
+    pub(crate) place: OutcomePlace,
     pub(crate) missed: bool,
 }
 
@@ -36,14 +36,14 @@ const BOTH: u64 = 3;
 /// are held, and for how long, is tested.
 #[derive(Drop)]
 pub struct PairGate<C> {
-    held: Held,
+    held: HeldOutcome,
     bit: u64,
     entered: Arc<AtomicU64, Global>,
     clock: C,
 }
 
 impl<C> Model for PairGate<C> {
-    ghost Value = { Held };
+    ghost Value = { HeldOutcome };
 
     ghost view = { λ g. g.held };
 }
@@ -54,8 +54,8 @@ impl<C: Clock + Clone + Drop> PairGate<C> {
     pub fn new(
         alloc: Global,
         clock: C,
-        first: Place,
-        second: Place,
+        first: OutcomePlace,
+        second: OutcomePlace,
     ) -> Result<(PairGate<C>, PairGate<C>), AllocError>
         requires { first.thread ≢ second.thread }
         ensures first { IfOk result (λ gates. gates.0 ≡ record { place = first; missed = false }) }
@@ -72,11 +72,11 @@ impl<C: Clock + Clone + Drop> PairGate<C> {
 }
 
 impl<C> PairGate<C> {
-    fn holding(place: Place, bit: u64, entered: Arc<AtomicU64, Global>, clock: C) -> PairGate<C>
+    fn holding(place: OutcomePlace, bit: u64, entered: Arc<AtomicU64, Global>, clock: C) -> PairGate<C>
         ensures { result ≡ record { place = place; missed = false } }
     {
         PairGate {
-            held: Held {
+            held: HeldOutcome {
                 place,
                 missed: false,
             },
@@ -104,7 +104,7 @@ impl<C: Clock> Gate for PairGate<C> {
     ghost may_answer = { MayAnswer };
 
     fn enter(&mut self, thread: usize, number: u64) -> bool {
-        if (Place { thread, number }) != self.held.place {
+        if (OutcomePlace { thread, number }) != self.held.place {
             return true;
         }
         self.entered.fetch_or(self.bit, Ordering::SeqCst);

@@ -6,7 +6,7 @@ use Rattle.json_views.specs.Calls.{flags_value, number_value}
 use Rattle.json_views.specs.Objects.{Member, hex_value, text_value}
 use Rattle.json_views.specs.declared.operand.Argument.{Argument}
 use Rattle.json_views.specs.declared.operand.Argument.TheVariants as argument
-use Rattle.json_views.specs.declared.operand.Operand.{Operand}
+use Rattle.json_views.specs.declared.operand.NamedOperand.{NamedOperand}
 
 -- the value of an operand
 abbrev pub argument_value : Argument → Data
@@ -17,6 +17,6 @@ argument_value (argument.Word word) = string word.now
 argument_value (argument.Flags flags) = flags_value flags
 
 -- the operand with its name, if there is one
-abbrev pub members_seen : Option Operand → List Member
+abbrev pub members_seen : Option NamedOperand → List Member
 members_seen None = []
 members_seen (Some operand) = (operand.name.now, argument_value operand.argument) ∷ []

@@ -5,7 +5,7 @@ ghost use Rattle.json_views.specs.Calls.{access_word, arguments_of, arguments_va
 ghost use Rattle.json_views.specs.Calls.{status_flags, whence_word};
 ghost use Rattle.json_views.specs.Objects.{with_members};
 
-use crate::operand::{Argument, Operand};
+use crate::operand::{Argument, NamedOperand};
 use posix_terms::{Access, Call, OpenFlags, ShutdownHow, Whence};
 use serde_json::{Map, Value, put};
 use std::alloc::{AllocError, Global};
@@ -26,12 +26,12 @@ pub(crate) fn arguments_value(alloc: Global, call: &Call) -> Result<Value, Alloc
 fn put_operand(
     members: &mut Map<String, Value>,
     alloc: Global,
-    operand: Option<Operand<'_>>,
+    operand: Option<NamedOperand<'_>>,
 ) -> Result<(), AllocError>
     ensures { OnOk result (members_view members.new.entries
         ≡ with_members (members_view members.old.entries) (members_seen operand.entry)) }
 {
-    let Some(Operand { name, argument }) = operand else {
+    let Some(NamedOperand { name, argument }) = operand else {
         return Ok(());
     };
     let value = argument.value(alloc)?;
@@ -40,7 +40,7 @@ fn put_operand(
 
 // The first operand of a call, if it has one: a path, a descriptor or a port.
 #[tactic(auto, unfolding(crate::specs::Calls::arguments_of))]
-fn first_operand(call: &Call) -> Option<Operand<'_>>
+fn first_operand(call: &Call) -> Option<NamedOperand<'_>>
     ensures { members_seen result ≡ take 1 (arguments_of call.now) }
 {
     let (name, argument) = match call {
@@ -75,7 +75,7 @@ fn first_operand(call: &Call) -> Option<Operand<'_>>
 
 // The operand after that, if there is one.
 #[tactic(auto, unfolding(crate::specs::Calls::arguments_of))]
-fn second_operand(call: &Call) -> Option<Operand<'_>>
+fn second_operand(call: &Call) -> Option<NamedOperand<'_>>
     ensures { members_seen result ≡ take 1 (drop 1 (arguments_of call.now)) }
 {
     let (name, argument) = match call {
@@ -108,7 +108,7 @@ fn second_operand(call: &Call) -> Option<Operand<'_>>
 
 // The third operand, if there is one: flags, a position, or from where an offset counts.
 #[tactic(auto, unfolding(crate::specs::Calls::arguments_of))]
-fn last_operand(call: &Call) -> Option<Operand<'_>>
+fn last_operand(call: &Call) -> Option<NamedOperand<'_>>
     ensures { members_seen result ≡ drop 2 (arguments_of call.now) }
 {
     let (name, argument) = match call {

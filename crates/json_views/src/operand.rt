@@ -10,7 +10,7 @@ use std::alloc::{AllocError, Global};
 
 /// An operand of a call, with its name.
 #[derive(Clone, Copy)]
-pub(crate) struct Operand<'a> {
+pub(crate) struct NamedOperand<'a> {
     pub name: &'static str,
     pub argument: Argument<'a>,
 }
@@ -27,10 +27,10 @@ pub(crate) enum Argument<'a> {
 
 impl<'a> Argument<'a> {
     /// This with a name.
-    pub fn named(self, name: &'static str) -> Operand<'a>
+    pub fn named(self, name: &'static str) -> NamedOperand<'a>
         ensures { result ≡ record { name = name.entry; argument = self.entry } }
     {
-        Operand {
+        NamedOperand {
             name,
             argument: self,
         }

@@ -5,8 +5,8 @@ use Rattle.std.specs.Prelude.{Result, Ok, Err, IfErr, OnErr, is_ok, ok_or}
 use Rattle.posix_terms.specs.Calls.{Call}
 use Rattle.lock_machine.specs.Refusals.{Comes, Rests, WantsNone, wants_object, wants_table}
 use Rattle.lock_machine.specs.Whole.{Whole}
-use Rattle.lock_machine.specs.declared.refused.Refused.{Refused}
-use Rattle.lock_machine.specs.declared.refused.Refused.TheVariants as refused
+use Rattle.lock_machine.specs.declared.refused.LockRefused.{LockRefused}
+use Rattle.lock_machine.specs.declared.refused.LockRefused.TheVariants as refused
 use Rattle.lock_machine.specs.declared.thread.Phase.{Phase}
 use Rattle.lock_machine.specs.declared.thread.Phase.TheVariants as phase
 use Rattle.lock_machine.proofs.AttemptEvents.{Idles}
@@ -28,13 +28,13 @@ idles_by p table object = tt
 
 -- ## What an event gives
 
-abbrev is_full : Refused → Bool
+abbrev is_full : LockRefused → Bool
 is_full refused.ClockFull = true
 is_full refused.WrongPhase = false
 is_full refused.Memory = false
 
 -- made or not, where it has its phase
-pub comes_moved : {A : Type 0} (right moved : Bool) (r : Result A Refused) (old new : Whole) (P : Bool → Type 0) → right ≡ true → is_ok r ≡ moved → IfErr r (λ e. e ≡ refused.ClockFull) → Rests moved old new → P moved
+pub comes_moved : {A : Type 0} (right moved : Bool) (r : Result A LockRefused) (old new : Whole) (P : Bool → Type 0) → right ≡ true → is_ok r ≡ moved → IfErr r (λ e. e ≡ refused.ClockFull) → Rests moved old new → P moved
     → Comes right r old new (λ (o : Option A). P (is_some o))
 comes_moved right moved (Ok a) old new P there made full rests h = (there, subst P (sym made) h)
 comes_moved right moved (Err refused.ClockFull) old new P there made full rests h = let R : Bool → Type 0 = λ b. Rests b old new in (there, subst R (sym made) rests, subst P (sym made) h)
@@ -42,7 +42,7 @@ comes_moved right moved (Err refused.WrongPhase) old new P there made full rests
 comes_moved right moved (Err refused.Memory) old new P there made full rests h = absurd (false≢true (ap is_full full))
 
 -- what is refused so leaves all as it was
-pub moved_rests : {A : Type 0} (moved : Bool) (r : Result A Refused) (old new : Whole) → is_ok r ≡ moved → Rests moved old new → OnErr r (new ≡ old)
+pub moved_rests : {A : Type 0} (moved : Bool) (r : Result A LockRefused) (old new : Whole) → is_ok r ≡ moved → Rests moved old new → OnErr r (new ≡ old)
 moved_rests moved (Ok a) old new made rests = tt
 moved_rests moved (Err e) old new made rests = let R : Bool → Type 0 = λ b. Rests b old new in subst R (sym made) rests
 

@@ -12,8 +12,8 @@ use Rattle.lock_machine.specs.declared.outside.Progress.{Progress}
 use Rattle.lock_machine.specs.declared.outside.Progress.TheVariants as progress
 use Rattle.lock_machine.specs.declared.refused.Attempt.{Attempt}
 use Rattle.lock_machine.specs.declared.refused.Attempt.TheVariants as attempt
-use Rattle.lock_machine.specs.declared.refused.Refused.{Refused}
-use Rattle.lock_machine.specs.declared.refused.Refused.TheVariants as refused
+use Rattle.lock_machine.specs.declared.refused.LockRefused.{LockRefused}
+use Rattle.lock_machine.specs.declared.refused.LockRefused.TheVariants as refused
 use Rattle.lock_machine.specs.declared.thread.Phase.{Phase}
 use Rattle.lock_machine.specs.declared.thread.Phase.TheVariants as phase
 
@@ -76,7 +76,7 @@ Rests false old new = new ≡ old
 
 -- an event comes where it has its phase: it is made, with what comes of it, or a number forbids it,
 -- or there is no memory. Where it is refused it changes nothing
-abbrev pub Comes : {A : Type 0} → Bool → Result A Refused → Whole → Whole → (Option A → Type 0)
+abbrev pub Comes : {A : Type 0} → Bool → Result A LockRefused → Whole → Whole → (Option A → Type 0)
     → Type 0
 Comes right (Ok a) old new made = (right ≡ true) × made (Some a)
 Comes right (Err refused.WrongPhase) old new made = (right ≡ false) × (new ≡ old)
@@ -84,14 +84,14 @@ Comes right (Err refused.ClockFull) old new made = (right ≡ true) × (new ≡ 
 Comes right (Err refused.Memory) old new made = (right ≡ true) × (new ≡ old)
 
 -- what is so where an event is refused since memory ran out
-abbrev pub OnMemory : {A : Type 0} → Result A Refused → Type 0 → Type 0
+abbrev pub OnMemory : {A : Type 0} → Result A LockRefused → Type 0 → Type 0
 OnMemory (Ok a) P = Unit {0}
 OnMemory (Err refused.WrongPhase) P = Unit {0}
 OnMemory (Err refused.ClockFull) P = Unit {0}
 OnMemory (Err refused.Memory) P = P
 
 -- an event that wants no memory is not refused for the lack of it
-abbrev pub WantsNone : {A : Type 0} → Result A Refused → Type 0
+abbrev pub WantsNone : {A : Type 0} → Result A LockRefused → Type 0
 WantsNone r = OnMemory r ⊥
 
 -- ## Outcomes
@@ -105,7 +105,7 @@ abbrev pub outlook : Whole → ℕ → Given → Progress
 outlook w i g = let t = thread_at w i in outlook_in t.phase t w.rows g
 
 -- what `record` gives, by whether the thread is outside and the outlook of the outcome
-abbrev pub recorded_as : Bool → Progress → Result Progress Refused
+abbrev pub recorded_as : Bool → Progress → Result Progress LockRefused
 recorded_as true progress.Moves = Ok progress.Moves
 recorded_as true progress.Diverges = Ok progress.Diverges
 recorded_as true progress.Stays = Err refused.ClockFull
@@ -114,7 +114,7 @@ recorded_as false p = Err refused.WrongPhase
 -- ## Attempts
 
 -- an attempt was made, or was not
-abbrev pub Tried : {A : Type 0} → Result A Refused → (Bool → Type 0) → Type 0
+abbrev pub Tried : {A : Type 0} → Result A LockRefused → (Bool → Type 0) → Type 0
 Tried (Ok a) made = made true
 Tried (Err refused.WrongPhase) made = made false
 Tried (Err refused.ClockFull) made = made false

@@ -5,7 +5,7 @@
 //! A [`LockMachine`] is made for 1 to 16 threads, and is handed their steps and the outcomes from
 //! outside. `phase` tells where a thread is between its events: `ask`, `end`, `attempt`,
 //! `begin_outside`, `record`, `answer` and `again`. An event that is not the thread's own now, or
-//! an attempt without the turn, is [`Refused`], and so is one for which the clock has no room.
+//! an attempt without the turn, is [`LockRefused`], and so is one for which the clock has no room.
 //! `ask` and `again` may want memory, and then nothing changes; an attempt, an answer or an end
 //! wants none. What names a thread asks that there is one of this number. `rows` is the history so
 //! far, and `finish` leaves it with the steps that were asked.
@@ -48,5 +48,5 @@ pub use asked::Asked;
 pub use laws::{machines_show, requests_asked};
 pub use machine::{Left, LockMachine};
 pub use outside::Progress;
-pub use refused::{Attempt, Refused};
+pub use refused::{Attempt, LockRefused};
 pub use thread::{Outing, Phase};

@@ -1,11 +1,11 @@
 ghost use Rattle.std.specs.Prelude.{◌≡◌};
-ghost use Rattle.lock_machine.specs.declared.refused.Refused.TheVariants as refused;
+ghost use Rattle.lock_machine.specs.declared.refused.LockRefused.TheVariants as refused;
 
 use std::alloc::AllocError;
 
 /// Why the machine refused an event.
 #[derive(Clone, Copy)]
-pub enum Refused {
+pub enum LockRefused {
     /// The thread is not at the phase of this event, or attempts a lock without the turn.
     WrongPhase,
     /// The thread's clock has no room for the event, or the thread had all the outcomes that it can have.
@@ -13,11 +13,11 @@ pub enum Refused {
     Memory,
 }
 
-impl From<AllocError> for Refused {
+impl From<AllocError> for LockRefused {
     ghost from_gives = { λ _ e. e ≡ refused.Memory };
 
-    fn from(_error: AllocError) -> Refused {
-        Refused::Memory
+    fn from(_error: AllocError) -> LockRefused {
+        LockRefused::Memory
     }
 }
 

@@ -4,8 +4,8 @@ use Rattle.posix_terms.specs.declared.outcome.Given.{Given}
 use Rattle.std.specs.Prelude.{◌≡◌, ℕ, Bool, true, false, Option, Some, None, Result, Ok, Err}
 use Rattle.input_log.specs.Format.{record_text}
 use Rattle.input_log.specs.Writing.{FailsInside, with_record}
-use Rattle.lock_machine.specs.declared.refused.Refused as calls
-use Rattle.lock_machine.specs.declared.refused.Refused.TheVariants as calls_refused
+use Rattle.lock_machine.specs.declared.refused.LockRefused as calls
+use Rattle.lock_machine.specs.declared.refused.LockRefused.TheVariants as calls_refused
 use Rattle.lock_model.specs.Machine.{Event, happens}
 use Rattle.lock_model.specs.Machine.Event.{Advances}
 use Rattle.sequential_object.specs.Answers.{numbered}
@@ -33,13 +33,13 @@ use Rattle.machine.specs.declared.stop.Stop.{Stop}
 use Rattle.machine.specs.declared.stop.Stop.TheVariants as stop
 
 -- a refusal of the lock machine
-abbrev pub refusal_of : calls.Refused → Refused
+abbrev pub refusal_of : calls.LockRefused → Refused
 refusal_of calls_refused.WrongPhase = refused.WrongPhase
 refusal_of calls_refused.ClockFull = refused.ClockFull
 refusal_of calls_refused.Memory = refused.Memory
 
 -- what the lock machine answers, as the machine tells it
-abbrev pub told_of : {A : Type 0} → Result A calls.Refused → Result A Refused
+abbrev pub told_of : {A : Type 0} → Result A calls.LockRefused → Result A Refused
 told_of (Ok a) = Ok a
 told_of (Err e) = Err (refusal_of e)
 

@@ -2,7 +2,7 @@ ghost use Rattle.std.specs.Prelude.{◌≡◌};
 ghost use Rattle.machine.specs.Events.{refusal_of};
 
 use crate::stop::Stop;
-use lock_machine::Refused as LockRefused;
+use lock_machine::LockRefused;
 use posix_terms::Outcome;
 use thiserror::Error;
 

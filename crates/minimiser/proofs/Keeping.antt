@@ -8,8 +8,8 @@ use Rattle.std.proofs.lemmas.List.{append-nil}
 use Rattle.std.proofs.Math.Nat.{eq-or-lt_of_le}
 use Rattle.std.specs.Prelude.{is_some, slice_index_or}
 use Rattle.minimiser.specs.Reductions.{Kept, is_kept, kept_lines, kept_outcomes, kept_texts}
-use Rattle.minimiser.specs.declared.step.Step.{Step}
-use Rattle.minimiser.specs.declared.step.Step.TheVariants as step
+use Rattle.minimiser.specs.declared.step.Removal.{Removal}
+use Rattle.minimiser.specs.declared.step.Removal.TheVariants as step
 
 pub no_lines : (kept : List Bool) → kept_lines kept [] ≡ []
 no_lines [] = refl
@@ -83,11 +83,11 @@ thread_of_line_within (lines ∷ kept) (suc thread) line is =
     omega (arith, thread_of_line_within kept thread line is)
 
 -- where the steps of all lines are there, and those of all threads, each step is that may be made
-pub each_step : (kept : Kept) (steps : List Step) (count : ℕ) → length kept ≤ count
+pub each_step : (kept : Kept) (steps : List Removal) (count : ℕ) → length kept ≤ count
     → ((thread line : ℕ) → is_kept kept (step.Line thread line) ≡ true
     → Contains steps (step.Line thread line))
     → ((thread : ℕ) → thread < count → Contains steps (step.Thread thread))
-    → (step : Step) → is_kept kept step ≡ true → Contains steps step
+    → (step : Removal) → is_kept kept step ≡ true → Contains steps step
 each_step kept steps count all lines threads (step.Line thread line) is = lines thread line is
 each_step kept steps count all lines threads (step.Thread thread) is =
     threads thread (omega (arith, thread_within kept thread is, all))

@@ -9,8 +9,8 @@ use Rattle.explorer.specs.Subject.{Subject}
 use Rattle.minimiser.specs.Failing.{FailsIn, IsRefused}
 use Rattle.minimiser.specs.Reductions.{Kept, is_kept, kept_of, without}
 use Rattle.minimiser.specs.Rounds.{size_of, size_of_thread}
-use Rattle.minimiser.specs.declared.step.Step.{Step}
-use Rattle.minimiser.specs.declared.step.Step.TheVariants as step
+use Rattle.minimiser.specs.declared.step.Removal.{Removal}
+use Rattle.minimiser.specs.declared.step.Removal.TheVariants as step
 use Rattle.minimiser.specs.declared.target.Target.{Target}
 use Rattle.minimiser.proofs.Keeping.{kept_within, thread_of_line_within, thread_within}
 
@@ -30,7 +30,7 @@ some_of_thread : (thread : Option (List Bool)) → is_some thread ≡ true → 0
 some_of_thread None is = absurd (cc is)
 some_of_thread (Some lines) is = omega arith
 
-pub smaller : (kept : Kept) (step : Step) → is_kept kept step ≡ true
+pub smaller : (kept : Kept) (step : Removal) → is_kept kept step ≡ true
     → size_of (without kept step) < size_of kept
 smaller kept (step.Line thread line) is =
     let less : List Bool → List Bool = λ (lines : List Bool). slice_set lines line false in
@@ -46,19 +46,19 @@ smaller kept (step.Thread thread) is =
 
 -- what was kept at first, what is kept now, whether a step was taken, and those that were tried
 pub record Round
-    (given : Subject) (target : Target) (first kept : Kept) (taken : Bool) (tried : List Step)
+    (given : Subject) (target : Target) (first kept : Kept) (taken : Bool) (tried : List Removal)
     : Type 0 where
   pub fails : FailsIn given target kept
   pub some : taken ≡ true → size_of kept < size_of first
   pub none : taken ≡ false → (kept ≡ first) × All (IsRefused given target first) tried
 
-at_most : (given : Subject) (target : Target) (first kept : Kept) (taken : Bool) (tried : List Step)
+at_most : (given : Subject) (target : Target) (first kept : Kept) (taken : Bool) (tried : List Removal)
     → Round given target first kept taken tried → size_of kept ≤ size_of first
 at_most given target first kept true tried round = omega (arith, round.some refl)
 at_most given target first kept false tried round = omega (arith, ap size_of (round.none refl).0)
 
 pub one_taken : (given : Subject) (target : Target) (first kept : Kept) (taken : Bool)
-    (tried more : List Step) (step : Step) → Round given target first kept taken tried
+    (tried more : List Removal) (step : Removal) → Round given target first kept taken tried
     → is_kept kept step ≡ true → FailsIn given target (without kept step)
     → Round given target first (without kept step) true more
 one_taken given target first kept taken tried more step round is fails = record {
@@ -69,7 +69,7 @@ one_taken given target first kept taken tried more step round is fails = record 
 }
 
 pub one_refused : (given : Subject) (target : Target) (first kept : Kept) (taken : Bool)
-    (tried : List Step) (step : Step) → Round given target first kept taken tried
+    (tried : List Removal) (step : Removal) → Round given target first kept taken tried
     → IsRefused given target kept step
     → Round given target first kept taken (tried ++ step ∷ [])
 one_refused given target first kept taken tried step round refused = record {
@@ -84,9 +84,9 @@ one_refused given target first kept taken tried step round refused = record {
 }
 
 pub same_round : (given : Subject) (target : Target) (first kept other : Kept) (taken some : Bool)
-    (tried all : List Step) → other ≡ kept → some ≡ taken → all ≡ tried
+    (tried all : List Removal) → other ≡ kept → some ≡ taken → all ≡ tried
     → Round given target first kept taken tried → Round given target first other some all
 same_round given target first kept other taken some tried all is_kept is_taken are_tried round =
-    subst (λ (steps : List Step). Round given target first other some steps) (sym are_tried)
+    subst (λ (steps : List Removal). Round given target first other some steps) (sym are_tried)
     (subst (λ (b : Bool). Round given target first other b tried) (sym is_taken)
     (subst (λ (k : Kept). Round given target first k taken tried) (sym is_kept) round))

@@ -11,7 +11,7 @@ use Rattle.minimiser.specs.Reductions.{without}
 use Rattle.minimiser.specs.Targets.{IsFirstTarget}
 use Rattle.minimiser.specs.declared.fault.MinimiseFault.{MinimiseFault}
 use Rattle.minimiser.specs.declared.fault.MinimiseFault.TheVariants as fault
-use Rattle.minimiser.specs.declared.step.Step.{Step}
+use Rattle.minimiser.specs.declared.step.Removal.{Removal}
 use Rattle.minimiser.specs.declared.target.Target.{Target}
 
 -- all that the texts expect is good, and this is seen in the plain run of the scripts that they are
@@ -40,14 +40,14 @@ abbrev pub FailsIn : Subject → Target → Kept → Type 0
 FailsIn given target kept = IsSomeAnd (target_now kept target) (Fails (kept_subject given kept))
 
 -- it does not after this step, if that takes something away
-abbrev pub IsRefused : Subject → Target → Kept → Step → Type 0
+abbrev pub IsRefused : Subject → Target → Kept → Removal → Type 0
 IsRefused given target kept step =
     is_kept kept step ≡ true → ¬ (FailsIn given target (without kept step))
 
 -- what is kept fails the same, and after no further step
 pub record IsMinimal (given : Subject) (target : Target) (kept : Kept) : Type 0 where
   pub fails : FailsIn given target kept
-  pub minimal : (step : Step) → IsRefused given target kept step
+  pub minimal : (step : Removal) → IsRefused given target kept step
 
 -- why nothing is kept: what was given does not fail so. Without memory nothing is said
 abbrev pub IsFault : Subject → Target → MinimiseFault → Type 0

@@ -6,8 +6,8 @@ use Rattle.std.specs.Prelude.{slice_index_or, slice_set, if◌then◌else◌}
 use Rattle.std.specs.List.{cons_option}
 use Rattle.posix_terms.specs.declared.outcome.Given.{Given}
 use Rattle.thread_scripts.specs.Words.{lines_of}
-use Rattle.minimiser.specs.declared.step.Step.{Step}
-use Rattle.minimiser.specs.declared.step.Step.TheVariants as step
+use Rattle.minimiser.specs.declared.step.Removal.{Removal}
+use Rattle.minimiser.specs.declared.step.Removal.TheVariants as step
 use Rattle.minimiser.specs.declared.target.Target.{Target}
 
 -- of each thread that was given, whether each of its lines is kept; None where the thread is not
@@ -76,13 +76,13 @@ target_now kept target =
 -- ## Steps
 
 -- what a step takes away is still there
-abbrev pub is_kept : Kept → Step → Bool
+abbrev pub is_kept : Kept → Removal → Bool
 is_kept kept (step.Line thread line) =
     slice_index_or (unwrap_or (kept_of kept thread) []) line false
 is_kept kept (step.Thread thread) = is_some (kept_of kept thread)
 
 -- what is kept after a step
-abbrev pub without : Kept → Step → Kept
+abbrev pub without : Kept → Removal → Kept
 without kept (step.Line thread line) =
     slice_set kept thread (option_map (λ lines. slice_set lines line false) (kept_of kept thread))
 without kept (step.Thread thread) = slice_set kept thread None

@@ -4,8 +4,8 @@ use Rattle.std.specs.Prelude.{ℕ, ◌+◌, Bool, true, false, List, [], ◌∷�
 use Rattle.std.specs.Prelude.{replicate, Option, Some, None, bytes_eq, codes, if◌then◌else◌}
 use Rattle.thread_scripts.specs.Words.{lines_of, words_of}
 use Rattle.minimiser.specs.Reductions.{Kept, count_kept}
-use Rattle.minimiser.specs.declared.step.Step.{Step}
-use Rattle.minimiser.specs.declared.step.Step.TheVariants as step
+use Rattle.minimiser.specs.declared.step.Removal.{Removal}
+use Rattle.minimiser.specs.declared.step.Removal.TheVariants as step
 
 -- ## All lines
 
@@ -24,17 +24,17 @@ abbrev pub is_delay : List ℕ → Bool
 is_delay line = work_first (words_of line)
 
 -- the step that takes away this line of a thread, if it is a delay
-abbrev pub delay_at : ℕ → ℕ → List ℕ → List Step
+abbrev pub delay_at : ℕ → ℕ → List ℕ → List Removal
 delay_at thread line text = if is_delay text then step.Line thread line ∷ [] else []
 
 -- those of lines, the first of which has this number
-abbrev pub delays_among : ℕ → ℕ → List (List ℕ) → List Step
+abbrev pub delays_among : ℕ → ℕ → List (List ℕ) → List Removal
 delays_among thread line [] = []
 delays_among thread line (text ∷ texts) =
     delay_at thread line text ++ delays_among thread (line + 1) texts
 
 -- those of texts, the first of which is that of this thread
-abbrev pub delays_of : ℕ → List (List ℕ) → List Step
+abbrev pub delays_of : ℕ → List (List ℕ) → List Removal
 delays_of thread [] = []
 delays_of thread (text ∷ texts) =
     delays_among thread 0 (lines_of text) ++ delays_of (thread + 1) texts

@@ -2,13 +2,13 @@ ghost use Rattle.std.specs.Prelude.{◌≡◌, ◌++◌, IfOk, OnOk, map, option
 ghost use Rattle.thread_scripts.specs.Words.{lines_of};
 ghost use Rattle.minimiser.specs.Rounds.{delay_at, delays_among, delays_of, is_delay, work_first};
 
-use crate::step::Step;
+use crate::step::Removal;
 use posix_terms::Bytes;
 use std::alloc::{AllocError, Global};
 use thread_scripts::{line_words, text_lines};
 
 // The steps that take away a delay, by thread and in the order of the lines.
-pub fn delays(alloc: Global, texts: &[Bytes]) -> Result<Vec<Step>, AllocError>
+pub fn delays(alloc: Global, texts: &[Bytes]) -> Result<Vec<Removal>, AllocError>
     ensures { IfOk result (λ delays. delays.items ≡ delays_of 0 texts.now) }
 {
     let mut delays = Vec::new(alloc);
@@ -19,7 +19,7 @@ pub fn delays(alloc: Global, texts: &[Bytes]) -> Result<Vec<Step>, AllocError>
 }
 
 // Adds those of a thread's text.
-fn push_delays(delays: &mut Vec<Step>, thread: usize, text: &[u8]) -> Result<(), AllocError>
+fn push_delays(delays: &mut Vec<Removal>, thread: usize, text: &[u8]) -> Result<(), AllocError>
     ensures { OnOk result (
         delays.new.items ≡ delays.old.items ++ delays_among thread 0 (lines_of text.now)) }
 {
@@ -32,7 +32,7 @@ fn push_delays(delays: &mut Vec<Step>, thread: usize, text: &[u8]) -> Result<(),
 
 // Adds that of a line, if it is a delay.
 fn push_delay(
-    delays: &mut Vec<Step>,
+    delays: &mut Vec<Removal>,
     thread: usize,
     line: usize,
     text: &[u8],
@@ -40,7 +40,7 @@ fn push_delay(
     ensures { OnOk result (delays.new.items ≡ delays.old.items ++ delay_at thread line text.now) }
 {
     if is_delay(*delays.allocator(), text)? {
-        delays.push(Step::Line { thread, line })?;
+        delays.push(Removal::Line { thread, line })?;
     }
     Ok(())
 }

@@ -10,7 +10,7 @@ use crate::delays::delays;
 use crate::fault::MinimiseFault;
 use crate::finding::find_target;
 use crate::reduction::Reduction;
-use crate::step::Step;
+use crate::step::Removal;
 use crate::target::Target;
 use explorer::Trial;
 use std::alloc::{AllocError, Global};
@@ -50,7 +50,7 @@ fn take(
     trial: Trial<'_>,
     target: Target,
     kept: &mut Reduction,
-    steps: &[Step],
+    steps: &[Removal],
 ) -> Result<bool, AllocError>
     requires { FailsIn (subject trial) target kept.old }
     ensures fails { OnOk result (FailsIn (subject trial.entry) target kept.new) }
@@ -76,7 +76,7 @@ fn after(
     trial: Trial<'_>,
     target: Target,
     kept: &Reduction,
-    step: Step,
+    step: Removal,
 ) -> Result<Option<Reduction>, AllocError>
     ensures { IfOk result (λ rest.
         MatchOption rest

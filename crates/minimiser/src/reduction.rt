@@ -7,10 +7,10 @@ ghost use Rattle.minimiser.specs.Reductions.{count_kept, is_kept, kept_line, kep
 ghost use Rattle.minimiser.specs.Rounds.{all_of};
 ghost use Rattle.minimiser.specs.Reductions.{kept_of, kept_outcomes, kept_texts, line_now};
 ghost use Rattle.minimiser.specs.Reductions.{target_now, without};
-ghost use Rattle.minimiser.specs.declared.step.Step.{Step};
-ghost use Rattle.minimiser.specs.declared.step.Step.TheVariants as step;
+ghost use Rattle.minimiser.specs.declared.step.Removal.{Removal};
+ghost use Rattle.minimiser.specs.declared.step.Removal.TheVariants as step;
 
-use crate::step::Step;
+use crate::step::Removal;
 use crate::target::Target;
 use explorer::given_copied;
 use posix_terms::{Bytes, Outcomes};
@@ -111,49 +111,49 @@ impl Reduction {
     }
 
     // Whether what this step takes away is kept.
-    pub(crate) fn has(&self, step: Step) -> bool
+    pub(crate) fn has(&self, step: Removal) -> bool
         ensures { result ≡ is_kept self.now step }
     {
         match step {
-            Step::Line { thread, line } => match self.lines(thread) {
+            Removal::Line { thread, line } => match self.lines(thread) {
                 Some(lines) => is_line_kept(lines, line),
                 None => false,
             },
-            Step::Thread { thread } => self.lines(thread).is_some(),
+            Removal::Thread { thread } => self.lines(thread).is_some(),
         }
     }
 
     // What is kept after a step.
-    pub(crate) fn without(&self, alloc: Global, step: Step) -> Result<Reduction, AllocError>
+    pub(crate) fn without(&self, alloc: Global, step: Removal) -> Result<Reduction, AllocError>
         requires { is_kept self.now step ≡ true }
         ensures { IfOk result (λ rest. rest ≡ without self.now step) }
     {
         let mut threads = copied(alloc, &self.threads)?;
         match step {
-            Step::Line { thread, line } => {
+            Removal::Line { thread, line } => {
                 if let Some(lines) = &mut threads[thread] {
                     lines.kept[line] = false;
                 }
             }
-            Step::Thread { thread } => threads[thread] = None,
+            Removal::Thread { thread } => threads[thread] = None,
         }
         Ok(Reduction { threads })
     }
 
     // Each step that takes something away, in the order in which they are tried: the lines of each
     // thread from the last to the first, then the threads.
-    pub(crate) fn steps(&self, alloc: Global) -> Result<Vec<Step>, AllocError>
+    pub(crate) fn steps(&self, alloc: Global) -> Result<Vec<Removal>, AllocError>
         ensures { IfOk result (λ steps.
-            (step : Step) → is_kept self.now step ≡ true → Contains steps.items step) }
+            (step : Removal) → is_kept self.now step ≡ true → Contains steps.items step) }
     {
         let mut steps = self.line_steps(alloc)?;
         for thread in 0..self.threads.len() {
-            steps.push(Step::Thread { thread })?;
+            steps.push(Removal::Thread { thread })?;
         }
         Ok(steps)
     }
 
-    fn line_steps(&self, alloc: Global) -> Result<Vec<Step>, AllocError>
+    fn line_steps(&self, alloc: Global) -> Result<Vec<Removal>, AllocError>
         ensures { IfOk result (λ steps. (thread line : ℕ)
             → is_kept self.now (step.Line thread line) ≡ true
             → Contains steps.items (step.Line thread line)) }
@@ -256,14 +256,14 @@ fn copied(
 }
 
 // The steps that take away a line of a thread, from the last to the first.
-fn push_lines(steps: &mut Vec<Step>, thread: usize, lines: usize) -> Result<(), AllocError>
+fn push_lines(steps: &mut Vec<Removal>, thread: usize, lines: usize) -> Result<(), AllocError>
     ensures before { OnOk result (
-        (step : Step) → Contains steps.old.items step → Contains steps.new.items step) }
+        (step : Removal) → Contains steps.old.items step → Contains steps.new.items step) }
     ensures lines { OnOk result (
         (line : ℕ) → line < lines → Contains steps.new.items (step.Line thread line)) }
 {
     for line in (0..lines).rev() {
-        steps.push(Step::Line { thread, line })?;
+        steps.push(Removal::Line { thread, line })?;
     }
     Ok(())
 }

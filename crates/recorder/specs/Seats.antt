@@ -13,8 +13,8 @@ use Rattle.worker_notes.specs.Plays.{AreHeard, AreHeardSoFar, IsHeard, PlaysTo, 
 use Rattle.worker_notes.specs.declared.own.Brought.{Brought}
 use Rattle.worker_notes.specs.declared.own.Noted.{Noted}
 use Rattle.worker_notes.specs.declared.own.Own.{Own}
-use Rattle.recorder.specs.declared.asked.Asked.{Asked}
-use Rattle.recorder.specs.declared.asked.Asked.TheVariants as asked
+use Rattle.recorder.specs.declared.asked.StepKind.{StepKind}
+use Rattle.recorder.specs.declared.asked.StepKind.TheVariants as asked
 
 -- where actor and outside stood at entry and stand now, the notes, how many calls were made
 -- outside, and whether the actor or the outside may be ahead of the notes
@@ -66,13 +66,13 @@ IsCalling v = IsStill v × EndsInCall v.steps
 
 -- ## After a step
 
-abbrev pub kind_of : Step → Asked
+abbrev pub kind_of : Step → StepKind
 kind_of (step.Work n) = asked.Work
 kind_of (step.Call c) = asked.Call
 kind_of step.End = asked.End
 
 -- how a worker stands when such a step was asked
-abbrev pub StandsBehind : {O : Type 0} → Asked → Sitting O → Type 0
+abbrev pub StandsBehind : {O : Type 0} → StepKind → Sitting O → Type 0
 StandsBehind asked.Work v = IsReady v
 StandsBehind asked.Call v = IsCalling v
 StandsBehind asked.End v = Unit {0}

@@ -7,19 +7,19 @@ use std::alloc::AllocError;
 
 // What kind of step was asked.
 #[derive(Clone, Copy)]
-pub enum Asked {
+pub enum StepKind {
     Work,
     Call,
     End,
 }
 
-pub fn kind(step: &Step) -> Asked
+pub fn kind(step: &Step) -> StepKind
     ensures { result ≡ kind_of step.now }
 {
     match step {
-        Step::Work(_) => Asked::Work,
-        Step::Call(_) => Asked::Call,
-        Step::End => Asked::End,
+        Step::Work(_) => StepKind::Work,
+        Step::Call(_) => StepKind::Call,
+        Step::End => StepKind::End,
     }
 }
 

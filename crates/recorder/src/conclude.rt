@@ -7,9 +7,9 @@ ghost use Rattle.recorder.specs.Recorded.{AreAnswered, AreEnded, AreTold, IsRun,
 ghost use Rattle.worker_notes.specs.Agrees.{Agree};
 
 use crate::ended::Ended;
-use crate::history::History;
+use crate::history::RecordedHistory;
 use crate::threads::Gathered;
-use crate::transcripts::{Seen, seen_by};
+use crate::transcripts::{SeenRows, seen_by};
 use input_log::{Header, LogSink};
 use machine::{Finished, Machine, Stop};
 use posix_terms::{PackedRow, Transcript};
@@ -39,7 +39,7 @@ pub fn conclude<A: Drop, O: Drop, S: LogSink + Drop, D: Drop>(
     ensures answered { result.stop ≡ None → AreAnswered result.history.rows }
 {
     let mut machine = machine;
-    let Seen { transcripts, whole } = seen_by(
+    let SeenRows { transcripts, whole } = seen_by(
         alloc,
         header.threads as usize,
         machine.history(),
@@ -61,7 +61,7 @@ pub fn conclude<A: Drop, O: Drop, S: LogSink + Drop, D: Drop>(
         own,
         actors,
         outsides,
-        history: History::new(history),
+        history: RecordedHistory::new(history),
         sink,
         stop,
     }

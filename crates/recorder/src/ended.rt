@@ -1,4 +1,4 @@
-use crate::history::History;
+use crate::history::RecordedHistory;
 use input_log::LogSink;
 use machine::Stop;
 use posix_terms::{Limits, Transcripts};
@@ -15,7 +15,7 @@ pub struct Ended<A: Drop, O: Drop, S: LogSink + Drop> {
     pub own: Vec<Own>,
     pub actors: Vec<A>,
     pub outsides: Vec<O>,
-    pub history: History,
+    pub history: RecordedHistory,
     pub sink: S,
     /// Why the run is not whole: none where all threads ended, the log has its end, and all that
     /// they saw is here.

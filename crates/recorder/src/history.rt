@@ -8,7 +8,7 @@ use std::marker::Model;
 /// What happened in a run: a row for each granted turn, in the order of the turns, and the steps
 /// that each thread asked, with `End` last once it has ended.
 #[derive(Debug, Drop)]
-pub struct History {
+pub struct RecordedHistory {
     rows: Vec<PackedRow>,
     // none where there was no machine
     asked: Option<Asked>,
@@ -16,7 +16,7 @@ pub struct History {
     unstarted: usize,
 }
 
-impl Model for History {
+impl Model for RecordedHistory {
     ghost use Rattle.recorder.specs.Recorded.{Past, steps_asked};
 
     ghost Value = { Past };
@@ -24,12 +24,12 @@ impl Model for History {
     ghost view = { λ h. record { rows = h.rows.items; asked = steps_asked h.unstarted h.asked } };
 }
 
-impl History {
+impl RecordedHistory {
     // What a machine leaves.
-    pub(crate) fn new(left: Left) -> History
+    pub(crate) fn new(left: Left) -> RecordedHistory
         ensures { result ≡ record { rows = left.rows.items; asked = left.asked } }
     {
-        History {
+        RecordedHistory {
             rows: left.rows,
             asked: Some(left.asked),
             unstarted: 0,
@@ -37,10 +37,10 @@ impl History {
     }
 
     // No rows, and so many threads that asked nothing.
-    pub(crate) fn none(alloc: Global, threads: usize) -> History
+    pub(crate) fn none(alloc: Global, threads: usize) -> RecordedHistory
         ensures { result ≡ record { rows = []; asked = replicate threads [] } }
     {
-        History {
+        RecordedHistory {
             rows: Vec::new(alloc),
             asked: None,
             unstarted: threads,

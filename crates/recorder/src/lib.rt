@@ -60,7 +60,7 @@ mod transcripts;
 mod watch;
 
 pub use ended::{Ended, NotStarted, StartFault};
-pub use history::History;
+pub use history::RecordedHistory;
 pub use outsides::{hosts, hosts_waiting};
 pub use run::{record_actors, record_as, run_recorded};
 pub use thread_scripts::BoxedActor;

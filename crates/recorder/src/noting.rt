@@ -10,7 +10,7 @@ use crate::asked::copied;
 use crate::events::{Journey, ask, record};
 use crate::leave::Leave;
 use crate::outside::reach;
-use crate::shared::Shared;
+use crate::shared::SharedRun;
 use host_doors::Outside;
 use input_log::LogSink;
 use posix_terms::{Reply, Request, Turn};
@@ -25,7 +25,7 @@ use worker_notes::{Brought, Noted, Own, last_reply, open_call, request_for};
 // room for the step then.
 pub fn ask_next<A: Actor, S: LogSink, D: Drop, R: Wait>(
     rt: &R,
-    shared: &Shared<S, D>,
+    shared: &SharedRun<S, D>,
     i: usize,
     actor: &mut A,
     notes: &mut Vec<Noted>,
@@ -56,7 +56,7 @@ pub fn ask_next<A: Actor, S: LogSink, D: Drop, R: Wait>(
 // its steps end, which gets the outcome of this number; and has that recorded.
 pub fn bring<O: Outside, S: LogSink, R: Wait>(
     rt: &R,
-    shared: &Shared<S, O::Door>,
+    shared: &SharedRun<S, O::Door>,
     i: usize,
     outside: &mut O,
     number: u32,

@@ -3,7 +3,7 @@ ghost use Rattle.lock_machine.specs.Refusals.{phase_at};
 ghost use Rattle.machine.specs.Requests.{out_of};
 ghost use Rattle.recorder.specs.Order.{all_let_go, is_next_outside, lets_go};
 
-use crate::shared::Held;
+use crate::shared::Guarded;
 use input_log::LogSink;
 use lock_machine::Phase;
 use machine::Machine;
@@ -47,7 +47,7 @@ fn lets_go(row: usize, phase: &Phase) -> bool
 }
 
 // Wakes the worker whose call is the next to go outside, if there is one.
-pub fn wake_next_outside<S: LogSink, D: Drop>(held: &mut Held<S, D>) {
+pub fn wake_next_outside<S: LogSink, D: Drop>(held: &mut Guarded<S, D>) {
     for i in 0..held.machine.len() {
         if i < held.machine.len() && is_next_outside(&held.machine, i) {
             held.wakes.add(i);

@@ -14,21 +14,21 @@ use worker_notes::Own;
 // What is reserved before a run is started: for each worker a place for its notes, for its
 // transcript, for its reply, and to wait.
 #[derive(Drop)]
-pub struct Room {
+pub struct WorkerRoom {
     pub own: Vec<Own>,
     pub transcripts: Vec<Transcript>,
     pub told: Vec<Option<Reply>>,
     pub turns: Vec<Condvar>,
 }
 
-// Room for so many workers, where they can be started.
+// WorkerRoom for so many workers, where they can be started.
 #[tactic(auto, unfolding(input_log::specs::Grammar::in_range))]
 pub fn room_for(
     alloc: Global,
     actors: usize,
     outsides: usize,
     settings: Settings,
-) -> Result<Room, StartFault>
+) -> Result<WorkerRoom, StartFault>
     ensures started { IfOk result (λ room. refusal actors outsides settings ≡ None) }
     ensures some { IfOk result (λ room. 1 ≤ actors) }
     ensures within_limit { IfOk result (λ room. actors ≤ limit.THREADS) }
@@ -55,7 +55,7 @@ pub fn room_for(
     }
 }
 
-fn reserved(alloc: Global, actors: usize) -> Result<Room, AllocError>
+fn reserved(alloc: Global, actors: usize) -> Result<WorkerRoom, AllocError>
     ensures no_own { IfOk result (λ room. room.own.items ≡ []) }
     ensures own { IfOk result (λ room. actors ≤ vec_capacity room.own) }
     ensures no_transcripts { IfOk result (λ room. room.transcripts.items ≡ []) }
@@ -67,7 +67,7 @@ fn reserved(alloc: Global, actors: usize) -> Result<Room, AllocError>
         turns.push(Condvar::new())?;
         told.push(None)?;
     }
-    Ok(Room {
+    Ok(WorkerRoom {
         own: Vec::with_capacity(alloc, actors)?,
         transcripts: Vec::with_capacity(alloc, actors)?,
         told,

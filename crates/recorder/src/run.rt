@@ -14,10 +14,10 @@ ghost use Rattle.worker_notes.specs.Agrees.{Agree};
 
 use crate::conclude::conclude;
 use crate::ended::{Ended, NotStarted, StartFault};
-use crate::history::History;
+use crate::history::RecordedHistory;
 use crate::pulse::Pulse;
-use crate::room::{Room, room_for};
-use crate::shared::{Held, Shared, Wakes};
+use crate::room::{WorkerRoom, room_for};
+use crate::shared::{Guarded, SharedRun, Wakes};
 use crate::threads::{Crew, run_all};
 use crate::watch::{Manner, Unwatched, Watch};
 use host_doors::Outside;
@@ -253,7 +253,7 @@ fn start<
 >(
     rt: &R,
     alloc: Global,
-    room: Room,
+    room: WorkerRoom,
     crew: Crew<A, O>,
     sink: S,
     settings: Settings,
@@ -328,7 +328,7 @@ fn not_started<A: Drop, O: Drop, S: LogSink + Drop>(
 fn without_log<A: Actor + Drop, O: Outside + Drop, S: LogSink + Drop>(
     alloc: Global,
     header: Header,
-    room: Room,
+    room: WorkerRoom,
     crew: Crew<A, O>,
     sink: S,
 ) -> Ended<A, O, S>
@@ -349,7 +349,7 @@ fn without_log<A: Actor + Drop, O: Outside + Drop, S: LogSink + Drop>(
     ensures actors { result.actors ≡ crew.actors }
     ensures outsides { result.outsides ≡ crew.outsides }
 {
-    let Room {
+    let WorkerRoom {
         own,
         transcripts,
         ..
@@ -370,7 +370,7 @@ fn without_log<A: Actor + Drop, O: Outside + Drop, S: LogSink + Drop>(
         own,
         actors,
         outsides,
-        history: History::none(alloc, header.threads as usize),
+        history: RecordedHistory::none(alloc, header.threads as usize),
         sink,
         stop: Some(Stop::Sink),
     }
@@ -388,7 +388,7 @@ fn run_with<
     alloc: Global,
     header: Header,
     machine: Machine<S, O::Door>,
-    room: Room,
+    room: WorkerRoom,
     crew: Crew<A, O>,
     manner: Manner<W>,
 ) -> Ended<A, O, S>
@@ -410,15 +410,15 @@ fn run_with<
     ensures told { AreTrue O.gives A.state crew.actors.items crew.outsides.items
         result.own.items result.actors.items result.outsides.items }
 {
-    let Room {
+    let WorkerRoom {
         own,
         transcripts,
         told,
         turns,
     } = room;
     let Manner { in_turn, watch } = manner;
-    let shared = Shared {
-        held: Mutex::new(Held {
+    let shared = SharedRun {
+        held: Mutex::new(Guarded {
             machine,
             told,
             wakes: Wakes::none(),
@@ -428,7 +428,7 @@ fn run_with<
         pulse: Pulse::new(),
     };
     let gathered = run_all(rt, alloc, &shared, crew, own, watch);
-    let Shared { held, .. } = shared;
-    let Held { machine, .. } = held.into_inner();
+    let SharedRun { held, .. } = shared;
+    let Guarded { machine, .. } = held.into_inner();
     conclude(alloc, header, machine, gathered, transcripts)
 }

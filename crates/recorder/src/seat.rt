@@ -1,11 +1,11 @@
 ghost use Rattle.std.specs.Prelude.{◌≡◌, IfOk};
 ghost use Rattle.recorder.specs.Seats.{IsCalling, IsReady, IsTrueTo, StandsBehind};
 
-use crate::asked::{Asked, is_end, kind};
+use crate::asked::{StepKind, is_end, kind};
 use crate::events::{Journey, Next, go_on, leave};
 use crate::leave::Leave;
 use crate::noting::{ask_next, bring};
-use crate::shared::Shared;
+use crate::shared::SharedRun;
 use host_doors::Outside;
 use input_log::LogSink;
 use posix_terms::{Limits, Reply};
@@ -73,7 +73,7 @@ pub struct Returned<A, O> {
 pub fn work<A: Actor, O: Outside, S: LogSink, R: Wait>(
     rt: &R,
     alloc: Global,
-    shared: &Shared<S, O::Door>,
+    shared: &SharedRun<S, O::Door>,
     i: usize,
     actor: A,
     outside: O,
@@ -116,7 +116,7 @@ impl<A: Actor, O: Outside> Seat<A, O> {
     fn play<S: LogSink, R: Wait>(
         &mut self,
         rt: &R,
-        shared: &Shared<S, O::Door>,
+        shared: &SharedRun<S, O::Door>,
         i: usize,
     ) -> Result<(), Leave>
         requires ready { IsReady self.old }
@@ -125,10 +125,10 @@ impl<A: Actor, O: Outside> Seat<A, O> {
     {
         for _ in rt.forever() {
             match self.ask(rt, shared, i)? {
-                (Asked::Work, _) => {}
-                (Asked::Call, Some(reply)) => self.hear(reply),
-                (Asked::Call, None) => self.call(rt, shared, i)?,
-                (Asked::End, _) => return Ok(()),
+                (StepKind::Work, _) => {}
+                (StepKind::Call, Some(reply)) => self.hear(reply),
+                (StepKind::Call, None) => self.call(rt, shared, i)?,
+                (StepKind::End, _) => return Ok(()),
             }
         }
         unreachable!()
@@ -138,9 +138,9 @@ impl<A: Actor, O: Outside> Seat<A, O> {
     fn ask<S: LogSink, R: Wait>(
         &mut self,
         rt: &R,
-        shared: &Shared<S, O::Door>,
+        shared: &SharedRun<S, O::Door>,
         i: usize,
-    ) -> Result<(Asked, Option<Reply>), Leave>
+    ) -> Result<(StepKind, Option<Reply>), Leave>
         requires ready { IsReady self.old }
         ensures from { self.new.from ≡ self.old.from }
         ensures began { self.new.began ≡ self.old.began }
@@ -160,7 +160,7 @@ impl<A: Actor, O: Outside> Seat<A, O> {
     fn call<S: LogSink, R: Wait>(
         &mut self,
         rt: &R,
-        shared: &Shared<S, O::Door>,
+        shared: &SharedRun<S, O::Door>,
         i: usize,
     ) -> Result<(), Leave>
         requires calling { IsCalling self.old }
@@ -194,7 +194,7 @@ impl<A: Actor, O: Outside> Seat<A, O> {
     fn go<S: LogSink, R: Wait>(
         &mut self,
         rt: &R,
-        shared: &Shared<S, O::Door>,
+        shared: &SharedRun<S, O::Door>,
         i: usize,
         journey: Journey<O::Door>,
     ) -> Result<(), Leave>

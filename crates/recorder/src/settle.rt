@@ -3,7 +3,7 @@ ghost use Rattle.posix_terms.specs.declared.limits.TheConstants.Limits as limit;
 ghost use Rattle.recorder.specs.Leaving.{cause_of};
 
 use crate::leave::Leave;
-use crate::shared::{Held, Wakes};
+use crate::shared::{Guarded, Wakes};
 use input_log::LogSink;
 use lock_machine::Phase;
 use machine::{Machine, Refused};
@@ -13,7 +13,7 @@ use posix_terms::Answer;
 // that is granted then, so that its worker need only take the reply. Attempts that must fail are
 // skipped. Whoever made an event does so before it lets the machine go, so nobody has to hunt for
 // its turn. A refusal stops the machine.
-pub fn settle<S: LogSink, D: Drop>(held: &mut Held<S, D>) {
+pub fn settle<S: LogSink, D: Drop>(held: &mut Guarded<S, D>) {
     // It ends long before: each attempt adds to a clock, and a full one stops the machine.
     for _ in 0..u64::MAX {
         let Ok(Some(holder)) = held.machine.skip_failures() else {
@@ -32,7 +32,7 @@ pub fn settle<S: LogSink, D: Drop>(held: &mut Held<S, D>) {
 }
 
 // Stops the machine. All workers are to be woken: each is to see it.
-pub fn stop<S: LogSink, D: Drop>(held: &mut Held<S, D>, leave: Leave)
+pub fn stop<S: LogSink, D: Drop>(held: &mut Guarded<S, D>, leave: Leave)
     ensures machine { held.new.machine ≡ record held.old.machine {
       stop = Some (unwrap_or held.old.machine.stop (cause_of leave));
     } }
@@ -46,7 +46,7 @@ pub fn stop<S: LogSink, D: Drop>(held: &mut Held<S, D>, leave: Leave)
 
 // The attempt of thread i, which has the turn; and the answer, if its call is granted then. A
 // worker whose call goes outside is to be woken for that.
-fn turn<S: LogSink, D: Drop>(held: &mut Held<S, D>, i: usize) -> Result<(), Refused>
+fn turn<S: LogSink, D: Drop>(held: &mut Guarded<S, D>, i: usize) -> Result<(), Refused>
     requires { i < length held.old.machine.whole.threads }
 {
     attempt(&mut held.machine, i)?;

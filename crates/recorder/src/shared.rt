@@ -11,14 +11,14 @@ use std::sync::{Condvar, Mutex, MutexGuard, Wait};
 
 // The machine, and what its workers have not seen of it yet.
 #[derive(Drop)]
-pub struct Held<S: LogSink, D: Drop> {
+pub struct Guarded<S: LogSink, D: Drop> {
     pub machine: Machine<S, D>,
     // by thread the reply that its call was given, until its worker takes it
     pub told: Vec<Option<Reply>>,
     pub wakes: Wakes,
 }
 
-impl<S: LogSink, D: Drop> Held<S, D> {
+impl<S: LogSink, D: Drop> Guarded<S, D> {
     // The reply that the call of thread i was given, if its worker has not taken it yet.
     pub fn take_reply(&mut self, i: usize) -> Option<Reply>
         ensures reply { result ≡ slice_index_or self.old.told.items i None }
@@ -96,17 +96,17 @@ impl Wakes {
 // What the workers of a run share: the one machine, and for each worker a place to wait for its own
 // next event.
 #[derive(Drop)]
-pub struct Shared<S: LogSink, D: Drop> {
-    pub held: Mutex<Held<S, D>>,
+pub struct SharedRun<S: LogSink, D: Drop> {
+    pub held: Mutex<Guarded<S, D>>,
     pub turns: Vec<Condvar>,
     // whether calls go outside in the order of the turns
     pub in_turn: bool,
     pub pulse: Pulse,
 }
 
-impl<S: LogSink, D: Drop> Shared<S, D> {
+impl<S: LogSink, D: Drop> SharedRun<S, D> {
     // Lets the machine go, and then wakes who is to be woken.
-    pub fn let_go(&self, held: MutexGuard<'_, Held<S, D>>) {
+    pub fn let_go(&self, held: MutexGuard<'_, Guarded<S, D>>) {
         let mut held = held;
         let wakes = mem::replace(&mut held.wakes, Wakes::none());
         drop(held);
@@ -122,9 +122,9 @@ impl<S: LogSink, D: Drop> Shared<S, D> {
     pub fn rest<'a, R: Wait>(
         &'a self,
         rt: &R,
-        held: MutexGuard<'a, Held<S, D>>,
+        held: MutexGuard<'a, Guarded<S, D>>,
         i: usize,
-    ) -> MutexGuard<'a, Held<S, D>> {
+    ) -> MutexGuard<'a, Guarded<S, D>> {
         if !held.wakes.is_empty() {
             self.let_go(held);
             return self.held.lock(rt);

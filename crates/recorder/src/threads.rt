@@ -5,7 +5,7 @@ ghost use Rattle.recorder.specs.Seats.{IsTrueTo};
 use crate::events::leave;
 use crate::leave::Leave;
 use crate::seat::{Returned, work};
-use crate::shared::Shared;
+use crate::shared::SharedRun;
 use crate::watch::{Watch, keep_watch};
 use host_doors::Outside;
 use input_log::LogSink;
@@ -55,7 +55,7 @@ pub fn run_all<
 >(
     rt: &R,
     alloc: Global,
-    shared: &Shared<S, O::Door>,
+    shared: &SharedRun<S, O::Door>,
     crew: Crew<A, O>,
     own: Vec<Own>,
     watch: W,
@@ -94,7 +94,7 @@ fn run_watched<
     scope: &Scope<'s, E>,
     rt: &'s R,
     alloc: Global,
-    shared: &'s Shared<S, O::Door>,
+    shared: &'s SharedRun<S, O::Door>,
     crew: Crew<A, O>,
     own: Vec<Own>,
     watch: W,
@@ -124,7 +124,7 @@ fn start_watcher<
     D: Send + Drop + 's,
     W: Watch + Send + Drop + 's,
     R: Wait + Sync + 's,
->(scope: &Scope<'s, E>, rt: &'s R, shared: &'s Shared<S, D>, watch: W) -> Option<JoinHandle<()>> {
+>(scope: &Scope<'s, E>, rt: &'s R, shared: &'s SharedRun<S, D>, watch: W) -> Option<JoinHandle<()>> {
     let pause = watch.pause()?;
     match scope.spawn(move || keep_watch(rt, shared, pause, watch)) {
         Ok(watcher) => Some(watcher),
@@ -143,7 +143,7 @@ fn run_in<
     scope: &Scope<'s, E>,
     rt: &'s R,
     alloc: Global,
-    shared: &'s Shared<S, O::Door>,
+    shared: &'s SharedRun<S, O::Door>,
     crew: Crew<A, O>,
     own: Vec<Own>,
 ) -> Gathered<A, O>
@@ -188,7 +188,7 @@ fn run_rest<
     scope: &Scope<'s, E>,
     rt: &'s R,
     alloc: Global,
-    shared: &'s Shared<S, O::Door>,
+    shared: &'s SharedRun<S, O::Door>,
     actors: &mut Vec<A>,
     outsides: &mut Vec<O>,
     own: &mut Vec<Own>,
@@ -243,7 +243,7 @@ fn start_one<
     scope: &Scope<'s, E>,
     rt: &'s R,
     alloc: Global,
-    shared: &'s Shared<S, O::Door>,
+    shared: &'s SharedRun<S, O::Door>,
     i: usize,
     actor: A,
     outside: O,

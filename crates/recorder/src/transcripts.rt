@@ -9,13 +9,13 @@ use std::alloc::{AllocError, Global};
 // What the threads of a run saw, and whether that is all: where there is no memory it is a
 // beginning.
 #[derive(Drop)]
-pub struct Seen {
+pub struct SeenRows {
     pub transcripts: Transcripts,
     pub whole: bool,
 }
 
 // What each of the first threads saw, as far as there is memory for it.
-pub fn seen_by(alloc: Global, threads: usize, rows: &[PackedRow], room: Vec<Transcript>) -> Seen
+pub fn seen_by(alloc: Global, threads: usize, rows: &[PackedRow], room: Vec<Transcript>) -> SeenRows
     requires none { room.items ≡ [] }
     requires room { threads ≤ vec_capacity room }
     ensures begin { AreBeginnings result.transcripts (transcripts_of threads rows.now) }
@@ -29,7 +29,7 @@ pub fn seen_by(alloc: Global, threads: usize, rows: &[PackedRow], room: Vec<Tran
         whole = still(whole, &filled);
         transcripts.push_reserved(transcript);
     }
-    Seen {
+    SeenRows {
         transcripts: Transcripts::from_vec(transcripts),
         whole,
     }

@@ -1,5 +1,5 @@
 use crate::pulse::{LOOKS, Stillness};
-use crate::shared::Shared;
+use crate::shared::SharedRun;
 use input_log::LogSink;
 use machine::Machine;
 use std::sync::Wait;
@@ -55,7 +55,7 @@ pub struct Manner<W> {
 // Looks at the run until it is over, and shows it each time that it stands still.
 pub fn keep_watch<W: Watch + Drop, S: LogSink, D: Drop, R: Wait>(
     rt: &R,
-    shared: &Shared<S, D>,
+    shared: &SharedRun<S, D>,
     pause: Duration,
     watch: W,
 ) {
@@ -79,7 +79,7 @@ pub fn keep_watch<W: Watch + Drop, S: LogSink, D: Drop, R: Wait>(
 // Shows the run, unless it has moved since so many beats.
 fn show<W: Watch, S: LogSink, D: Drop, R: Wait>(
     rt: &R,
-    shared: &Shared<S, D>,
+    shared: &SharedRun<S, D>,
     beats: u64,
     watch: &mut W,
 ) {

@@ -9,7 +9,7 @@ use Rattle.thread_scripts.specs.Labels.{place_after}
 use Rattle.thread_scripts.specs.Readings.{said}
 use Rattle.thread_scripts.specs.Words.{words_of}
 use Rattle.thread_scripts.specs.declared.line.Line.{Line}
-use Rattle.thread_scripts.specs.declared.readings.Reading.{Reading}
+use Rattle.thread_scripts.specs.declared.readings.LineReading.{LineReading}
 use Rattle.script_checks.specs.Checks.{bad_from}
 
 counted : (labels : List (List ℕ × ℕ)) (place : ℕ) (texts : List (List ℕ))
@@ -19,7 +19,7 @@ counted labels place (text ∷ texts) =
     ap (λ n. suc n) (counted labels (place_after place (words_of text)) texts)
 
 -- each line says something, or is bad
-pub as_many : {T : Type 0} (now : T → List ℕ) (texts : List T) (readings : List Reading)
+pub as_many : {T : Type 0} (now : T → List ℕ) (texts : List T) (readings : List LineReading)
     (lines : List (List ℕ)) → map said readings ≡ readings_of lines → map now texts ≡ lines
     → length readings ≡ length texts
 as_many now texts readings lines says are =
@@ -38,7 +38,7 @@ bad_within n ((Some r) ∷ readings) k d h = let more = bad_within (n + 1) readi
     (omega (arith, more.0), omega (arith, more.1))
 
 -- the numbers in front of the bad ones are those of lines of the text
-pub front_within : {T : Type 0} (now : T → List ℕ) (texts : List T) (readings : List Reading)
+pub front_within : {T : Type 0} (now : T → List ℕ) (texts : List T) (readings : List LineReading)
     (lines : List (List ℕ)) (bad : List ℕ) (count : ℕ)
     → map said readings ≡ readings_of lines → map now texts ≡ lines
     → bad ≡ bad_from 1 (map said readings)

@@ -11,7 +11,7 @@ use crate::labels::labels_of;
 use crate::words::{PlacedWord, placed_words};
 use posix_terms::Limits;
 use std::alloc::{AllocError, Global};
-use thread_scripts::{Reading, Script, ScriptFault, parse, text_lines, text_readings};
+use thread_scripts::{LineReading, Script, ScriptFault, parse, text_lines, text_readings};
 
 /// How many bad lines of a text are shown at most.
 pub const SHOWN: usize = 20;
@@ -52,12 +52,12 @@ pub enum Checked<'a> {
 }
 
 // The numbers of the lines that are bad, from 1.
-fn bad_numbers(alloc: Global, readings: &[Reading]) -> Result<Vec<usize>, AllocError>
+fn bad_numbers(alloc: Global, readings: &[LineReading]) -> Result<Vec<usize>, AllocError>
     ensures { IfOk result (λ bad. bad.items ≡ bad_from 1 (map said readings.now)) }
 {
     let mut bad = Vec::new(alloc);
     for i in 0..readings.len() {
-        if matches!(readings[i], Reading::Bad) {
+        if matches!(readings[i], LineReading::Bad) {
             bad.push(i + 1)?;
         }
     }
@@ -89,7 +89,7 @@ fn mistakes<'a>(
 fn acting_lines<'a>(
     alloc: Global,
     texts: &[&'a [u8]],
-    readings: &[Reading],
+    readings: &[LineReading],
 ) -> Result<Vec<ActingLine<'a>>, AllocError>
     requires { length readings.now ≡ length texts.now }
     ensures { IfOk result (λ lines.
@@ -97,7 +97,7 @@ fn acting_lines<'a>(
 {
     let mut lines = Vec::new(alloc);
     for i in 0..readings.len() {
-        if matches!(readings[i], Reading::Line(_)) {
+        if matches!(readings[i], LineReading::Line(_)) {
             let number = i + 1;
             let words = placed_words(alloc, texts[i])?;
             lines.push(ActingLine { number, words })?;

@@ -62,6 +62,6 @@ pub use laws::{
 pub use line::{ByteRegister, CallLine, Data, Line, Number, NumberRegister, Register};
 pub use numbers::{byte_register, natural, number, register};
 pub use posix_terms::Step;
-pub use readings::{Reading, text_readings};
+pub use readings::{LineReading, text_readings};
 pub use script::Script;
 pub use words::{line_words, text_lines};

@@ -13,7 +13,7 @@ use std::alloc::{AllocError, Global};
 
 /// What a line of a text says.
 #[derive(Debug, PartialEq, Eq, Drop)]
-pub enum Reading {
+pub enum LineReading {
     /// The line is bad.
     Bad,
     /// A comment, an empty line or a line of spaces.
@@ -27,16 +27,16 @@ fn read_one(
     labels: &[Label],
     place: usize,
     words: &Option<Vec<&[u8]>>,
-) -> Result<Reading, AllocError>
+) -> Result<LineReading, AllocError>
     ensures { IfOk result (λ reading.
         said reading
         ≡ option_and_then (words_say (map (λ l. (l.name.now, l.place)) labels.now) place)
         (option_map (λ v. map (λ w. w.now) v.items) words.now)) }
 {
     match read_line(alloc, labels, place, words) {
-        Ok(Some(line)) => Ok(Reading::Line(line)),
-        Ok(None) => Ok(Reading::Nothing),
-        Err(LineFault::Bad) => Ok(Reading::Bad),
+        Ok(Some(line)) => Ok(LineReading::Line(line)),
+        Ok(None) => Ok(LineReading::Nothing),
+        Err(LineFault::Bad) => Ok(LineReading::Bad),
         Err(LineFault::Memory) => Err(AllocError),
     }
 }
@@ -46,7 +46,7 @@ fn read_each(
     alloc: Global,
     labels: &[Label],
     split: &[SplitLine],
-) -> Result<Vec<Reading>, AllocError>
+) -> Result<Vec<LineReading>, AllocError>
     ensures { IfOk result (λ readings.
         map said readings.items
         ≡ readings_from (map (λ l. (l.name.now, l.place)) labels.now) 0
@@ -64,7 +64,7 @@ fn read_each(
 
 /// What each line of a text says, however many there are, with the bad ones among them. Where no
 /// line is bad, and there are not too many, the script is what they say.
-pub fn text_readings(alloc: Global, text: &[u8]) -> Result<Vec<Reading>, AllocError>
+pub fn text_readings(alloc: Global, text: &[u8]) -> Result<Vec<LineReading>, AllocError>
     ensures { IfOk result (λ readings.
         map said readings.items ≡ readings_of (lines_of text.now)) }
 {

@@ -1,7 +1,7 @@
 ghost use Rattle.std.specs.Prelude.{◌≡◌, ◌<◌, IfOk};
 
 use crate::words::doors::{Came, is_so, plain, success};
-use host_doors::{DoorStop, Outside, PairGate, Place, ScriptDoor, ScriptDoors};
+use host_doors::{DoorStop, Outside, PairGate, OutcomePlace, ScriptDoor, ScriptDoors};
 use posix_terms::{Errno, Given, OutKind, Outcome, Outcomes};
 use std::alloc::{AllocError, Global};
 use std::io;
@@ -12,12 +12,12 @@ use std::thread::{Threads, join, sleep};
 use std::time::{Clock, Duration};
 
 /// The outcome of each of two threads that their gates hold.
-const FIRST: Place = Place {
+const FIRST: OutcomePlace = OutcomePlace {
     thread: 0,
     number: 2,
 };
 
-const SECOND: Place = Place {
+const SECOND: OutcomePlace = OutcomePlace {
     thread: 1,
     number: 0,
 };
@@ -63,7 +63,7 @@ fn pair<C: Clock + Clone + Drop>(alloc: Global, clock: C) -> Result<Pair<C>, All
 }
 
 /// What comes of a read at a place.
-fn read<C: Clock>(doors: &mut ScriptDoors<PairGate<C>>, place: Place) -> Result<Outcome, DoorStop>
+fn read<C: Clock>(doors: &mut ScriptDoors<PairGate<C>>, place: OutcomePlace) -> Result<Outcome, DoorStop>
     requires room { doors.old.counts.given < 1000 }
     requires few { doors.old.counts.failures < 1000 }
 {
@@ -83,7 +83,7 @@ type Arrivals = AtomicU64;
 fn meets(
     clock: HostRuntime,
     mut doors: ScriptDoors<PairGate<HostRuntime>>,
-    place: Place,
+    place: OutcomePlace,
     delay: u64,
     come: &Arrivals,
     wanted: &Came,

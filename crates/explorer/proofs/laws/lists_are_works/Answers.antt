@@ -8,7 +8,7 @@ use Rattle.posix_terms.specs.declared.limits.TheConstants.Limits.{WORK}
 use Rattle.explorer.specs.Lists.{Bounds, delay_in, delay_of, delays_among, delays_at, list_of}
 use Rattle.explorer.specs.Lists.{lists_of, one_of, pairs_among, two_of}
 use Rattle.explorer.specs.declared.delay_list.Delay.{Delay}
-use Rattle.explorer.specs.declared.places.Place.{Place}
+use Rattle.explorer.specs.declared.places.CallPlace.{CallPlace}
 use Rattle.explorer.proofs.laws.lists_are_works.Goals as goal
 
 -- a delay is no longer than this
@@ -29,19 +29,19 @@ numbers_within start (suc n) limit fits =
     All-cons (λ k. k ≤ limit) start (range_with_len (start + 1) n) (omega (arith, fits))
     (numbers_within (start + 1) n limit (omega (arith, fits)))
 
-at_place : (limit reach : ℕ) → reach ≤ limit → (place : Place)
+at_place : (limit reach : ℕ) → reach ≤ limit → (place : CallPlace)
     → All (IsWithin limit) (delays_at reach place)
 at_place limit reach within place =
     All-map (IsWithin limit) (delay_of place) (range_with_len 1 reach)
     (numbers_within 1 reach limit (omega (arith, within)))
 
-among : (limit reach : ℕ) → reach ≤ limit → (places : List Place)
+among : (limit reach : ℕ) → reach ≤ limit → (places : List CallPlace)
     → All (IsWithin limit) (delays_among reach places)
 among limit reach within places =
-    in_pieces (IsWithin limit) (λ (place : Place). 0 ≤ place.line) (delays_at reach)
+    in_pieces (IsWithin limit) (λ (place : CallPlace). 0 ≤ place.line) (delays_at reach)
     (λ place some. at_place limit reach within place) places (λ k place inside. omega arith)
 
-pairs : (limit reach : ℕ) → reach ≤ limit → (places : List Place)
+pairs : (limit reach : ℕ) → reach ≤ limit → (places : List CallPlace)
     → All (All (IsWithin limit)) (pairs_among reach places)
 pairs limit reach within [] = All-nil (All (IsWithin limit))
 pairs limit reach within (place ∷ places) =

@@ -3,7 +3,7 @@ use Rattle.std.proofs.Common.{◌+◌}
 use Rattle.std.proofs.Common.{length, refl}
 use Rattle.std.proofs.lemmas.Option.{slice_get_past, slice_get_read}
 use Rattle.explorer.specs.Lists.{delay_of}
-use Rattle.explorer.specs.declared.places.Place.{Place}
+use Rattle.explorer.specs.declared.places.CallPlace.{CallPlace}
 use Rattle.explorer.proofs.Listing.{among_at, none_among}
 use Rattle.explorer.proofs.lists.delay_among.Goals as goal
 
@@ -20,7 +20,7 @@ returns-in-Some c =
     slice_get_read c.args.places.now (length c.args.places.now) (c.args.at / reach)
     c.in-Some.place.now refl found.3.0 found.1 in
     sym (among_at reach c.args.places.now c.args.at some
-    ∙ ap (option_map (λ (place : Place). delay_of place (1 + c.args.at % reach))) is)
+    ∙ ap (option_map (λ (place : CallPlace). delay_of place (1 + c.args.at % reach))) is)
 
 pub returns-in-None : goal.returns-in-None
 returns-in-None c =
@@ -29,4 +29,4 @@ returns-in-None c =
     let past = c.in-None.ensures.lookup.3 in
     let is = slice_get_past c.args.places.now (c.args.at / reach) past in
     sym (among_at reach c.args.places.now c.args.at some
-    ∙ ap (option_map (λ (place : Place). delay_of place (1 + c.args.at % reach))) is)
+    ∙ ap (option_map (λ (place : CallPlace). delay_of place (1 + c.args.at % reach))) is)

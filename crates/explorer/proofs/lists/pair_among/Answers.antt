@@ -3,12 +3,12 @@ use Rattle.std.proofs.Common.{List, ap, arith}
 use Rattle.std.proofs.Common.{drop, get_or, length, slice_get, subst, sym}
 use Rattle.std.specs.List.{cons_option}
 use Rattle.explorer.specs.Lists.{delay_of, delays_among, pairs_among}
-use Rattle.explorer.specs.declared.places.Place.{Place}
+use Rattle.explorer.specs.declared.places.CallPlace.{CallPlace}
 use Rattle.explorer.proofs.Listing.{found_here, found_later, length_on, others_fit, pair_here}
 use Rattle.explorer.proofs.Listing.{pairs_at}
 use Rattle.explorer.proofs.lists.pair_among.Goals as goal
 
-abbrev no_place : Place
+abbrev no_place : CallPlace
 no_place = record { thread = 0; line = 0 }
 
 pub overflow_mul-others : goal.overflow_mul-others
@@ -20,7 +20,7 @@ overflow_mul-others c =
     let fits = others_fit reach (length (drop (i + 1) places))
     (length (pairs_among reach (drop (i + 1) places)))
     (omega (arith, whole, c.loop-i.invariant.fits)) in
-    let all = subst (λ (rest : List Place). length rest * reach < 2 ^ 64)
+    let all = subst (λ (rest : List CallPlace). length rest * reach < 2 ^ 64)
     (sym c.after-rest.ensures) fits in
     omega (arith, all)
 
@@ -32,7 +32,7 @@ overflow_mul-here c =
     let whole = length_on reach places i no_place c.loop-i-test.true in
     let fits : reach * (length (drop (i + 1) places) * reach) < 2 ^ 64 =
     omega (arith, whole, c.loop-i.invariant.fits) in
-    let all = subst (λ (rest : List Place). reach * (length rest * reach) < 2 ^ 64)
+    let all = subst (λ (rest : List CallPlace). reach * (length rest * reach) < 2 ^ 64)
     (sym c.after-rest.ensures) fits in
     omega (arith, all)
 
@@ -51,8 +51,8 @@ returns-then-left-here c =
     ap (λ o. delay_of place (1 + left / (length rest * reach)) ∷ cons_option o []) second
     ∙ pair_here reach place rest left inside
     ∙ sym (found_here reach places i left no_place c.loop-i-test.true
-    (subst (λ (l : List Place). left < reach * (length l * reach)) c.after-rest.ensures inside)
-    ∙ ap (λ (l : List Place). get_or (pairs_at reach place l) left []) (sym c.after-rest.ensures))
+    (subst (λ (l : List CallPlace). left < reach * (length l * reach)) c.after-rest.ensures inside)
+    ∙ ap (λ (l : List CallPlace). get_or (pairs_at reach place l) left []) (sym c.after-rest.ensures))
     ∙ c.loop-i.invariant.list
 
 pub loop-i-preserved : goal.loop-i-preserved
@@ -65,9 +65,9 @@ loop-i-preserved c =
     let whole = length_on reach places i no_place c.loop-i-test.true in
     let past : reach * (length rest * reach) ≤ left = search rules in
     let later = found_later reach places i left no_place c.loop-i-test.true
-    (subst (λ (l : List Place). reach * (length l * reach) ≤ left) c.after-rest.ensures past) in
+    (subst (λ (l : List CallPlace). reach * (length l * reach) ≤ left) c.after-rest.ensures past) in
     record {
-      list = ap (λ (l : List Place).
+      list = ap (λ (l : List CallPlace).
           get_or (pairs_among reach (drop (i + 1) places)) (left - reach * (length l * reach)) [])
           c.after-rest.ensures
           ∙ sym later ∙ c.loop-i.invariant.list;

@@ -4,8 +4,8 @@ use Rattle.std.proofs.lemmas.List.{take_all, take_more}
 use Rattle.explorer.specs.Subject.{subject}
 use Rattle.minimiser.specs.Failing.{FailsIn, IsRefused}
 use Rattle.minimiser.specs.Reductions.{without}
-use Rattle.minimiser.specs.declared.step.Step.{Step}
-use Rattle.minimiser.specs.declared.step.Step.TheVariants as step
+use Rattle.minimiser.specs.declared.step.Removal.{Removal}
+use Rattle.minimiser.specs.declared.step.Removal.TheVariants as step
 use Rattle.minimiser.proofs.Taking.{one_refused, one_taken, same_round}
 use Rattle.minimiser.proofs.minimise.take.Goals as goal
 use Rattle.minimiser.proofs.minimise.take.Goals.{in-Some, in_default}
@@ -19,7 +19,7 @@ loop-step-preserved c =
     let taken = c.loop-step.taken in
     let steps = c.args.steps.now in
     let i = c.loop-step.step-index in
-    let now : Step = get_or steps i (step.Line 0 0) in
+    let now : Removal = get_or steps i (step.Line 0 0) in
     let tried = take i steps in
     let more = take (i + 1) steps in
     let one_more : more ≡ tried ++ now ∷ [] =

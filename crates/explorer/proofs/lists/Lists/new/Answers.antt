@@ -1,7 +1,7 @@
 use Rattle.std.proofs.Common.{rules, ◌≡◌, ◌∙◌, ◌≤◌, ◌^◌, List, length, subst, sym}
 use Rattle.explorer.specs.Lists.{lists_of, places_of}
 use Rattle.explorer.specs.ListCounts.{list_count}
-use Rattle.explorer.specs.declared.places.Place.{Place}
+use Rattle.explorer.specs.declared.places.CallPlace.{CallPlace}
 use Rattle.explorer.proofs.Listing.{bounds_of, lists_length}
 use Rattle.explorer.proofs.lists.Lists.new.Goals as goal
 
@@ -11,7 +11,7 @@ returns-in_default c =
     let is : places ≡ places_of 0 c.args.texts.now = search rules in
     let many : 2 ^ 64 ≤ list_count (length places) c.args.reach c.args.two = search rules in
     subst
-    (λ (ps : List Place). 2 ^ 64 ≤ length (lists_of (bounds_of ps c.args.reach c.args.two)))
+    (λ (ps : List CallPlace). 2 ^ 64 ≤ length (lists_of (bounds_of ps c.args.reach c.args.two)))
     is
     (subst (λ n. 2 ^ 64 ≤ n) (sym (lists_length places c.args.reach c.args.two)) many)
 

@@ -3,7 +3,7 @@ use Rattle.std.proofs.Common.{length}
 use Rattle.std.proofs.Common.{slice_get, subst, sym}
 use Rattle.std.specs.List.{cons_option}
 use Rattle.explorer.specs.Lists.{Bounds, delays_among, list_of, pairs_among}
-use Rattle.explorer.specs.declared.places.Place.{Place}
+use Rattle.explorer.specs.declared.places.CallPlace.{CallPlace}
 use Rattle.explorer.proofs.Listing.{case_of_one, case_of_two, has_two, lists_length, ones_fit}
 use Rattle.explorer.proofs.Listing.{pairs_fit}
 use Rattle.explorer.proofs.lists.Lists.of_case.Goals as goal
@@ -29,7 +29,7 @@ returns-then-case-ones c =
     let first : c.delay_among.result
     ≡ slice_get (delays_among inside.reach places) (c.args.case - 1) =
     c.delay_among.ensures
-    ∙ ap (λ (ps : List Place). slice_get (delays_among inside.reach ps) (c.args.case - 1))
+    ∙ ap (λ (ps : List CallPlace). slice_get (delays_among inside.reach ps) (c.args.case - 1))
     c.deref.ensures.value in
     ap (λ o. cons_option o []) first
     ∙ (case_of_one places inside.reach inside.two c.args.case some within
@@ -46,7 +46,7 @@ pair_among-requires c =
     let past : c.len.result * inside.reach < c.args.case = search rules in
     let two = has_two (length places) inside.reach inside.count c.args.case inside.two same below
     (subst (λ n. n * inside.reach < c.args.case) len past) in
-    subst (λ (ps : List Place). length (pairs_among inside.reach ps) < 2 ^ 64)
+    subst (λ (ps : List CallPlace). length (pairs_among inside.reach ps) < 2 ^ 64)
     (sym c.deref-2.ensures.value)
     (pairs_fit places inside.reach inside.count inside.two two same fits)
 
@@ -62,7 +62,7 @@ returns c =
     let after = subst (λ n. n * inside.reach < case) len past in
     let two = has_two (length places) inside.reach inside.count case inside.two same below after in
     c.pair_among.ensures
-    ∙ (ap (λ (ps : List Place). get_or (pairs_among inside.reach ps)
+    ∙ (ap (λ (ps : List CallPlace). get_or (pairs_among inside.reach ps)
     (case - 1 - c.len.result * inside.reach) []) c.deref-2.ensures.value
     ∙ ap (λ n. get_or (pairs_among inside.reach places) (case - 1 - n * inside.reach) []) len
     ∙ case_of_two places inside.reach inside.two case two after

@@ -3,7 +3,7 @@ use Rattle.std.proofs.Common.{length}
 use Rattle.std.proofs.Common.{arith}
 use Rattle.std.specs.Prelude.{unwrap_or}
 use Rattle.minimiser.specs.Reductions.{is_kept, kept_of}
-use Rattle.minimiser.specs.declared.step.Step.TheVariants as step
+use Rattle.minimiser.specs.declared.step.Removal.TheVariants as step
 use Rattle.minimiser.proofs.Keeping.{here_or_earlier, kept_within, thread_of_line_within}
 use Rattle.minimiser.proofs.reduction.Reduction.line_steps.Goals as goal
 

@@ -1,6 +1,6 @@
 use Rattle.std.proofs.Common.{◌≡◌, ◌<◌, ℕ, Contains, true}
 use Rattle.minimiser.specs.Reductions.{is_kept}
-use Rattle.minimiser.specs.declared.step.Step.TheVariants as step
+use Rattle.minimiser.specs.declared.step.Removal.TheVariants as step
 use Rattle.minimiser.proofs.reduction.Reduction.line_steps.Given as goal
 
 -- those of the threads so far are there

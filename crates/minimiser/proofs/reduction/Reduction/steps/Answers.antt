@@ -1,14 +1,14 @@
 use Rattle.std.proofs.Common.{◌≡◌, inl, inr, ℕ, ◌+◌, ◌<◌, ◌≤◌, ◌++◌, ◌∷◌, [], length, Contains}
 use Rattle.std.proofs.Common.{true, subst, sym, rules}
 use Rattle.minimiser.specs.Reductions.{is_kept}
-use Rattle.minimiser.specs.declared.step.Step.{Step}
-use Rattle.minimiser.specs.declared.step.Step.TheVariants as step
+use Rattle.minimiser.specs.declared.step.Removal.{Removal}
+use Rattle.minimiser.specs.declared.step.Removal.TheVariants as step
 use Rattle.minimiser.proofs.Keeping.{each_step, here_or_earlier, now_there, still_there}
 use Rattle.minimiser.proofs.reduction.Reduction.steps.Goals as goal
 
 pub loop-thread-preserved : goal.loop-thread-preserved
 loop-thread-preserved c =
-    let new : Step = step.Thread c.loop-thread.thread in
+    let new : Removal = step.Thread c.loop-thread.thread in
     let old = c.loop-thread.steps.items in
     let all = c.push.new.self.items in
     let is : all ≡ old ++ new ∷ [] = search rules in

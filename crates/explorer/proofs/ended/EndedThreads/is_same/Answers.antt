@@ -1,7 +1,7 @@
 use Rattle.std.proofs.Common.{rules}
 use Rattle.std.proofs.lemmas.Slice.Eq.{slice_eq-Decides}
 use Rattle.std.specs.Cmp.{booleans_Decides}
-use Rattle.explorer.proofs.ended.Ended.is_same.Goals as goal
+use Rattle.explorer.proofs.ended.EndedThreads.is_same.Goals as goal
 
 pub returns : goal.returns
 returns c =
