@@ -83,6 +83,14 @@ impl<S: LogSink, D: Drop> Machine<S, D> {
         self.stop
     }
 
+    /// The sink, with what the log's writer put into it so far.
+    pub fn sink(&self) -> &S
+        ensures taken { S.taken result.now ≡ self.now.log.taken }
+        ensures failures { S.failures result.now ≡ self.now.log.failures }
+    {
+        self.log.sink()
+    }
+
     /// How many threads there are: 1 to 16.
     pub fn len(&self) -> usize
         ensures count { result ≡ length self.now.whole.threads }
