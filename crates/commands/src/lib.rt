@@ -2,7 +2,7 @@
 //! and writers, for the program `detio` and for its tests.
 //!
 //! Each command is a function, as [`plain_over`]: it reads its [`Source`]s, writes what the command
-//! prints to two writers, and answers the exit status. Its contract says what is printed for which
+//! prints to two writers, and returns the exit status. Its contract says what is printed for which
 //! texts. Bad scripts, bad logs and lack of memory are faults that it prints; it fails only with an
 //! error of the writer `errors`. [`record_over`] makes its log, a [`LogTo`], just before the run,
 //! and asks for one outside for each script, of which none gave anything yet. [`upgrade_over`] and
@@ -52,6 +52,7 @@ pub use command_texts::{
 };
 pub use make::{LogMade, make_over, what_is_shown_is_made};
 pub use plain::plain_over;
+pub use ran::{Ran, Run, RunHistory, run_ran};
 pub use record::{LogTo, NewLog, NotCreated, RecordOptions, Recorded, log_sink, record_over};
 pub use replay::{replay_over, replay_threads_over};
 pub use show::show_over;

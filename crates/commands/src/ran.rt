@@ -16,16 +16,16 @@ use std::sync::Wait;
 use std::thread::Threads;
 use thread_scripts::Script;
 
-// What came of a replay.
+/// What came of a replay.
 #[derive(Debug, Drop)]
 pub enum Ran {
-    // It went as far as this.
+    /// It went as far as this.
     Run(Run),
-    // There was no run: what is printed in its place.
+    /// There was no run: what is printed in its place.
     Fault(Printed),
 }
 
-// A run as far as it came: what each thread saw, the granted turns, and why it stopped, if it did.
+/// A run as far as it came: what each thread saw, the granted turns, and why it stopped, if it did.
 #[derive(Debug, Drop)]
 pub struct Run {
     pub transcripts: Transcripts,
@@ -33,7 +33,7 @@ pub struct Run {
     pub stop: Option<Stop>,
 }
 
-// The history of a run. Contracts see the granted turns.
+/// The history of a run. Contracts see the granted turns.
 #[derive(Debug, Drop)]
 pub struct RunHistory {
     kept: Kept,
@@ -57,7 +57,7 @@ impl Model for RunHistory {
 }
 
 impl RunHistory {
-    // The granted turns, in their order.
+    /// The granted turns, in their order.
     pub fn rows(&self) -> &[PackedRow]
         ensures { result.now ≡ self.now }
     {
@@ -68,27 +68,30 @@ impl RunHistory {
     }
 }
 
-// What comes of the replay of a log with these scripts.
+impl Run {
+    /// A plain run, with its history.
+    pub fn of_plain(plain: Plain) -> Run
+        ensures { HasRun plain.transcripts plain.history.rows plain.stop result }
+    {
+        Run {
+            transcripts: plain.transcripts,
+            history: RunHistory {
+                kept: Kept::Plain(plain.history),
+            },
+            stop: plain.stop,
+        }
+    }
+}
+
+/// The replay of a log with these scripts, as far as it came; or what is printed where there was none.
+/// An error means out of memory.
 pub fn run_ran(alloc: Global, log: &[u8], scripts: Vec<Script>) -> Result<Ran, AllocError>
     ensures { IfOk result (RunRan log.now scripts.items) }
 {
     let count = scripts.len();
     match replay_run(alloc, log, scripts) {
-        Ok(RunByLog { plain, .. }) => Ok(Ran::Run(of_plain(plain))),
+        Ok(RunByLog { plain, .. }) => Ok(Ran::Run(Run::of_plain(plain))),
         Err(fault) => Ok(Ran::Fault(no_replay(alloc, log, count, fault)?)),
-    }
-}
-
-// A plain run, with its history.
-fn of_plain(plain: Plain) -> Run
-    ensures { HasRun plain.transcripts plain.history.rows plain.stop result }
-{
-    Run {
-        transcripts: plain.transcripts,
-        history: RunHistory {
-            kept: Kept::Plain(plain.history),
-        },
-        stop: plain.stop,
     }
 }
 
