@@ -42,7 +42,8 @@ flags_are f g h =
 access_is : (a b : Access) → access.ghosts.eq a b ≡ true → a ≡ b
 access_is a b h = search rules
 
-opening_is : (p q : List ℕ) (a b : Access) (f g : OpenFlags) → (pointwise nat_eq p q && (access.ghosts.eq a b && flags.ghosts.eq f g)) ≡ true → (p ≡ q) × (a ≡ b) × (f ≡ g)
+opening_is : (p q : List ℕ) (a b : Access) (f g : OpenFlags)
+    → (pointwise nat_eq p q && (access.ghosts.eq a b && flags.ghosts.eq f g)) ≡ true → (p ≡ q) × (a ≡ b) × (f ≡ g)
 opening_is p q a b f g h =
     let first = and_parts _ _ h in
     let second = and_parts _ _ first.1 in
@@ -50,10 +51,12 @@ opening_is p q a b f g h =
 
 -- `==` of two calls
 abbrev equal : Call → Call → Bool
-equal a b = let g = calls.ghosts Builtin.i64 SharedBytes.the_row numbers.ghosts numbers.dict bytes.ghosts bytes.dict in g.eq a b
+equal a b = let g = calls.ghosts Builtin.i64 SharedBytes.the_row numbers.ghosts numbers.dict bytes.ghosts bytes.dict in
+    g.eq a b
 
 call_is : (a b : Call) → equal a b ≡ true → a ≡ b
-call_is (call.Open p a f) (call.Open q b g) h = let s = opening_is p q a b f g h in λ i. call.Open (s.0 i) (s.1 i) (s.2 i)
+call_is (call.Open p a f) (call.Open q b g) h = let s = opening_is p q a b f g h in
+    λ i. call.Open (s.0 i) (s.1 i) (s.2 i)
 call_is (call.Close d) (call.Close e) h = search rules
 call_is (call.Read d n) (call.Read e m) h = search rules
 call_is (call.Write d n) (call.Write e m) h = search rules
@@ -75,7 +78,8 @@ call_is (call.Rmdir d) (call.Rmdir e) h = search rules
 call_is call.Pipe call.Pipe h = refl
 call_is call.Socketpair call.Socketpair h = refl
 call_is (call.Shutdown d n) (call.Shutdown e m) h = search rules
-call_is (call.HostOpen p a f) (call.HostOpen q b g) h = let s = opening_is p q a b f g h in λ i. call.HostOpen (s.0 i) (s.1 i) (s.2 i)
+call_is (call.HostOpen p a f) (call.HostOpen q b g) h = let s = opening_is p q a b f g h in
+    λ i. call.HostOpen (s.0 i) (s.1 i) (s.2 i)
 call_is (call.TcpListen d) (call.TcpListen e) h = search rules
 call_is (call.TcpConnect d) (call.TcpConnect e) h = search rules
 call_is (call.TcpAccept d) (call.TcpAccept e) h = search rules
@@ -105,7 +109,8 @@ row_Decides a b = (row_is a b, λ h. subst (λ c. row.ghosts.eq a c ≡ true) h 
 -- ## Calls, by a row that has them
 
 equal_refl : (a : Call) → equal a a ≡ true
-equal_refl a = (and_parts _ _ (rows.laws-law.refl (record { call = a; turn = record { clock = 0; thread = 0 }; reply = reply_of.Done }))).0
+equal_refl a = (and_parts _ _ (rows.laws-law.refl
+    (record { call = a; turn = record { clock = 0; thread = 0 }; reply = reply_of.Done }))).0
 
 pub call_Decides : (a b : Call) → Decides (equal a b) (a ≡ b)
 call_Decides a b = (call_is a b, λ h. subst (λ c. equal a c ≡ true) h (equal_refl a))

@@ -8,11 +8,13 @@ use Rattle.posix_terms.specs.declared.call.Call.TheVariants as call
 use Rattle.posix_terms.specs.declared.call.CallKind.{CallKind}
 use Rattle.posix_terms.specs.declared.call.CallKind.TheVariants as kind
 
+-- a description opened so may be read
 abbrev pub can_read : Access → Bool
 can_read ReadOnly = true
 can_read WriteOnly = false
 can_read ReadWrite = true
 
+-- a description opened so may be written
 abbrev pub can_write : Access → Bool
 can_write ReadOnly = false
 can_write WriteOnly = true
@@ -22,6 +24,7 @@ can_write ReadWrite = true
 abbrev pub Call : Type 0
 Call = declared.Call ℤ (List ℕ)
 
+-- which of the calls it is
 abbrev pub kind_of : {Number Text : Type 0} → declared.Call Number Text → CallKind
 kind_of (call.Open path access flags) = kind.Open
 kind_of (call.Close descriptor) = kind.Close

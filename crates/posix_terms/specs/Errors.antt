@@ -2,7 +2,13 @@
 -- The error numbers of this profile, and their names.
 use Rattle.std.specs.Prelude.{ℕ, List, Option, Some, None, if◌then◌else◌, ◌==◌, codes}
 use Rattle.posix_terms.specs.declared.errno.Errno.{Errno}
-use Rattle.posix_terms.specs.declared.errno.Errno.TheVariants.{EBADF, EINVAL, EOVERFLOW, ESPIPE, EFBIG, EAGAIN, EPIPE, EINTR, EIO, ENOENT, EEXIST, ENOTDIR, EISDIR, ENOTEMPTY, EPERM, EACCES, EMFILE, ENFILE, ENOSPC, ENAMETOOLONG, ENOTSOCK, EBUSY, ECONNREFUSED, ECONNRESET, EADDRINUSE, ETIMEDOUT}
+use Rattle.posix_terms.specs.declared.errno.Errno.TheVariants.{EBADF, EINVAL, EOVERFLOW, ESPIPE}
+use Rattle.posix_terms.specs.declared.errno.Errno.TheVariants.{EFBIG, EAGAIN, EPIPE, EINTR, EIO}
+use Rattle.posix_terms.specs.declared.errno.Errno.TheVariants.{ENOENT, EEXIST, ENOTDIR, EISDIR}
+use Rattle.posix_terms.specs.declared.errno.Errno.TheVariants.{ENOTEMPTY, EPERM, EACCES, EMFILE}
+use Rattle.posix_terms.specs.declared.errno.Errno.TheVariants.{ENFILE, ENOSPC, ENAMETOOLONG}
+use Rattle.posix_terms.specs.declared.errno.Errno.TheVariants.{ENOTSOCK, EBUSY, ECONNREFUSED}
+use Rattle.posix_terms.specs.declared.errno.Errno.TheVariants.{ECONNRESET, EADDRINUSE, ETIMEDOUT}
 
 -- the number of an error in a log, where 0 says that there is none
 abbrev pub code_of : Errno → ℕ

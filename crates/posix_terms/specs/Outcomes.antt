@@ -17,7 +17,8 @@ value_fits kind.Open asked value count = value == 0
 value_fits kind.Read asked value count = value == count && nat_le value asked
 value_fits kind.Write asked value count = nat_le value asked
 value_fits kind.Seek asked value count = nat_le value (2 ^ 63 - 1)
-value_fits kind.Listen asked value count = nat_le 1 value && nat_le value limit.PORT && (asked == 0 || value == asked)
+value_fits kind.Listen asked value count = nat_le 1 value && nat_le value limit.PORT
+    && (asked == 0 || value == asked)
 value_fits kind.Connect asked value count = value == 0
 value_fits kind.Accept asked value count = value == 0
 value_fits kind.Shutdown asked value count = value == 0
@@ -30,9 +31,11 @@ bytes_fit _ count = count == 0
 
 -- an outcome answers a request of this kind that asks this; every failure does
 unfoldable pub fits : OutKind → ℕ → Outcome → Bool
-fits k asked (outcome.Ok value bytes) = value_fits k asked value (length bytes) && bytes_fit k (length bytes)
+fits k asked (outcome.Ok value bytes) = value_fits k asked value (length bytes)
+    && bytes_fit k (length bytes)
 fits k asked (outcome.Fail error) = true
 
+-- two kinds of requests are the same
 abbrev pub is_kind : OutKind → OutKind → Bool
 is_kind kind.Open kind.Open = true
 is_kind kind.Read kind.Read = true
@@ -58,9 +61,10 @@ is_at turn (Some clock) = clock == turn.clock
 abbrev pub answers : Request → Given → Bool
 answers request given = suits request.kind request.asked given && is_at request.turn given.clock
 
--- the same outcome with the clock of this turn, and with none
+-- the same outcome with the clock of this turn
 abbrev pub dated : Turn → Given → Given
 dated turn given = record given { clock = Some turn.clock }
 
+-- the same outcome without a clock
 abbrev pub undated : Given → Given
 undated given = record given { clock = None }

@@ -10,6 +10,7 @@ use Rattle.posix_terms.specs.declared.reply.Answer.TheVariants as answer
 use Rattle.posix_terms.specs.declared.reply.Reply.TheVariants as reply
 use Rattle.posix_terms.specs.declared.transcript.HistoryRow.{HistoryRow}
 
+-- the thread of a packed row
 abbrev pub thread_packed : Course → ℕ
 thread_packed (course.Granted thread) = thread
 thread_packed (course.Again thread) = thread
@@ -22,10 +23,12 @@ thread_packed (course.Done thread) = thread
 thread_packed (course.Fail thread error) = thread
 thread_packed (course.Outside thread passage) = thread
 
+-- the outcome of a packed row, which one of a call outside alone has
 abbrev pub outcome_packed : Course → Option Outcome
 outcome_packed (course.Outside thread passage) = passage.value.outcome
 outcome_packed _ = None
 
+-- the answer of a packed row, where its call has one
 abbrev pub answer_packed : Course → Option Answer
 answer_packed (course.Granted thread) = None
 answer_packed (course.Again thread) = Some answer.Again
@@ -39,6 +42,7 @@ answer_packed (course.Done thread) = Some (answer.Reply reply.Done)
 answer_packed (course.Fail thread error) = Some (answer.Reply (reply.Fail error))
 answer_packed (course.Outside thread passage) = passage.value.answer
 
+-- the row that a packed one stands for, with its call and its clock
 abbrev pub unpacked : Call → ℕ → Course → HistoryRow
 unpacked call clock c = record {
   call = call;

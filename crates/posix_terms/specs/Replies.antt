@@ -2,7 +2,8 @@
 -- The numbers that replies are printed with.
 use Rattle.std.specs.Prelude.{ℕ}
 use Rattle.posix_terms.specs.declared.reply.ObjectKind.{ObjectKind}
-use Rattle.posix_terms.specs.declared.reply.ObjectKind.TheVariants.{File, Pipe, SocketPair, HostFile, Listener, Stream}
+use Rattle.posix_terms.specs.declared.reply.ObjectKind.TheVariants.{File, Pipe, SocketPair}
+use Rattle.posix_terms.specs.declared.reply.ObjectKind.TheVariants.{HostFile, Listener, Stream}
 
 -- the kind of an object as `fstat` tells it
 abbrev pub kind_code : ObjectKind → ℕ

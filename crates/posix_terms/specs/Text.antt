@@ -5,4 +5,5 @@ use Rattle.std.specs.List.{slice_split}
 
 -- the pieces of a text between the separators, without the empty ones
 abbrev pub pieces_of : ℕ → List ℕ → List (List ℕ)
-pieces_of separator text = filter (λ piece. not (length piece == 0)) (slice_split (λ b. b == separator) text)
+pieces_of separator text = filter (λ piece. not (length piece == 0))
+    (slice_split (λ b. b == separator) text)

@@ -21,7 +21,8 @@ pub fn pieces<'a>(alloc: Global, text: &'a [u8], separator: u8) -> Result<Vec<&'
 
 /// The pieces of a text between the separators, with the empty ones.
 pub fn split<'a>(alloc: Global, text: &'a [u8], separator: u8) -> Result<Vec<&'a [u8]>, AllocError>
-    ensures { IfOk result (λ pieces. map (λ p. p.now) pieces.items ≡ slice_split (λ b. b == separator) text.now) }
+    ensures { IfOk result (λ pieces. map (λ p. p.now) pieces.items
+        ≡ slice_split (λ b. b == separator) text.now) }
 {
     text.split(|b| *b == separator).collect(alloc)
 }

@@ -12,6 +12,7 @@ out_of_ok a (Err e) = a
 pub same_ok : {A : Type 0} (a b : A) → (let r : Result A Errno = Ok a in r ≡ Ok b) → a ≡ b
 same_ok a b h = ap (out_of_ok a) h
 
-pub gave : {A B : Type 0} (r : Result A Errno) (f : A → Result B Errno) (b : B) → r >>= f ≡ Ok b → (a : A) × ((r ≡ Ok a) × (f a ≡ Ok b))
+pub gave : {A B : Type 0} (r : Result A Errno) (f : A → Result B Errno) (b : B) → r >>= f ≡ Ok b → (a : A)
+    × ((r ≡ Ok a) × (f a ≡ Ok b))
 gave (Ok a) f b h = (a, (refl, h))
 gave (Err e) f b h = absurd (true≢false (sym (ap is_ok h)))

@@ -14,13 +14,15 @@ use Rattle.posix_terms.specs.declared.reply.Reply.{Reply}
 use Rattle.posix_terms.specs.declared.transcript.Settings.{Settings}
 
 abbrev pub description_of : End → ℕ → Access → ℕ → Bool → Bool → Description
-description_of which object access offset append nonblock = record { object = object; «end» = which; access = access; offset = offset; append = append; nonblock = nonblock }
+description_of which object access offset append nonblock =
+    record { object = object; «end» = which; access = access; offset = offset; append = append; nonblock = nonblock }
 
 abbrev pub description : ℕ → Access → ℕ → Bool → Bool → Description
 description = description_of part.Only
 
 -- a state by the entries of its maps
-abbrev pub holding : List (ℕ × ℕ) → List (ℕ × Description) → List (ℕ × Content) → List (List (List ℕ) × Node) → ℕ → ℕ → State
+abbrev pub holding : List (ℕ × ℕ) → List (ℕ × Description) → List (ℕ × Content) → List (List (List ℕ) × Node) → ℕ → ℕ
+    → State
 holding descriptors descriptions objects paths next_description next_object =
     record {
       descriptors = fin.from_sorted descriptors;
@@ -39,14 +41,18 @@ abbrev pub Runs : Settings → State → List (Call × Reply) → List State →
 Runs settings s [] [] = Unit {0}
 Runs settings s [] (after ∷ states) = ⊥
 Runs settings s (row ∷ rows) [] = ⊥
-Runs settings s (row ∷ rows) (after ∷ states) = (step settings s row.0 None nothing_carried ≡ replied after row.1) × Runs settings after rows states
+Runs settings s (row ∷ rows) (after ∷ states) = (step settings s row.0 None nothing_carried ≡ replied after row.1)
+    × Runs settings after rows states
 
-pub replies_of : (settings : Settings) (s : State) (rows : List (Call × Reply)) (states : List State) → Runs settings s rows states → answers_from settings s (map (λ (row : Call × Reply). row.0) rows) ≡ map (λ (row : Call × Reply). answer.Reply row.1) rows
+pub replies_of : (settings : Settings) (s : State) (rows : List (Call × Reply)) (states : List State)
+    → Runs settings s rows states → answers_from settings s (map (λ (row : Call × Reply). row.0) rows)
+    ≡ map (λ (row : Call × Reply). answer.Reply row.1) rows
 replies_of settings s [] [] runs = refl
 replies_of settings s [] (after ∷ states) runs = absurd runs
 replies_of settings s (row ∷ rows) [] runs = absurd runs
 replies_of settings s (row ∷ rows) (after ∷ states) runs =
-    ap (λ (stepped : Stepped). stepped.answer ∷ answers_from settings stepped.after (map (λ (row : Call × Reply). row.0) rows)) runs.0
+    ap (λ (stepped : Stepped). stepped.answer
+    ∷ answers_from settings stepped.after (map (λ (row : Call × Reply). row.0) rows)) runs.0
     ∙ ap (λ (answers : List Answer). answer.Reply row.1 ∷ answers) (replies_of settings after rows states runs.1)
 
 -- the last of these states
@@ -54,7 +60,8 @@ abbrev pub final : State → List State → State
 final s [] = s
 final s (after ∷ states) = final after states
 
-state_of : (settings : Settings) (s : State) (rows : List (Call × Reply)) (states : List State) → Runs settings s rows states → state_after settings s (map (λ (row : Call × Reply). row.0) rows) ≡ final s states
+state_of : (settings : Settings) (s : State) (rows : List (Call × Reply)) (states : List State)
+    → Runs settings s rows states → state_after settings s (map (λ (row : Call × Reply). row.0) rows) ≡ final s states
 state_of settings s [] [] runs = refl
 state_of settings s [] (after ∷ states) runs = absurd runs
 state_of settings s (row ∷ rows) [] runs = absurd runs
@@ -62,5 +69,8 @@ state_of settings s (row ∷ rows) (after ∷ states) runs =
     ap (λ (stepped : Stepped). state_after settings stepped.after (map (λ (row : Call × Reply). row.0) rows)) runs.0
     ∙ state_of settings after rows states runs.1
 
-pub left_of : {n : ℕ} (settings : Settings) (s : State) (rows : List (Call × Reply)) (states : List State) → Runs settings s rows states → fin.len (final s states).objects ≡ n → fin.len (state_after settings s (map (λ (row : Call × Reply). row.0) rows)).objects ≡ n
-left_of settings s rows states runs left = ap (λ (after : State). fin.len after.objects) (state_of settings s rows states runs) ∙ left
+pub left_of : {n : ℕ} (settings : Settings) (s : State) (rows : List (Call × Reply)) (states : List State)
+    → Runs settings s rows states → fin.len (final s states).objects ≡ n
+    → fin.len (state_after settings s (map (λ (row : Call × Reply). row.0) rows)).objects ≡ n
+left_of settings s rows states runs left =
+    ap (λ (after : State). fin.len after.objects) (state_of settings s rows states runs) ∙ left

@@ -1,5 +1,6 @@
 -- What each change of a state, each act on an object and each opened door keep true, each turn of each call keeps true.
-use Rattle.std.proofs.Common.{◌&&◌, ℕ, List, Bool, true, false, Option, Some, None, Result, Ok, Err, if◌then◌else◌, sym, subst}
+use Rattle.std.proofs.Common.{◌&&◌, ℕ, List, Bool, true, false, Option, Some, None, Result, Ok, Err, if◌then◌else◌, sym}
+use Rattle.std.proofs.Common.{subst}
 use Rattle.std.specs.Prelude.{IfOk}
 use Rattle.posix_terms.specs.Calls.{Call}
 use Rattle.posix_terms.specs.declared.errno.Errno.{Errno}

@@ -1,5 +1,6 @@
 -- Each turn of each call leaves a state in which each description is of an end that its object has.
-use Rattle.std.proofs.Common.{◌≡◌, ◌⊎◌, ℕ, ◌<◌, ◌||◌, pos, [], Bool, true, false, Option, Some, None, if◌then◌else◌, inl, inr, ap, arith, refl, sym, subst, ◌∙◌}
+use Rattle.std.proofs.Common.{◌≡◌, ◌⊎◌, ℕ, ◌<◌, ◌||◌, pos, [], Bool, true, false, Option, Some, None, if◌then◌else◌}
+use Rattle.std.proofs.Common.{inl, inr, ap, arith, refl, sym, subst, ◌∙◌}
 use Rattle.std.proofs.lemmas.Bool.{cases_eq, false≢true}
 use Rattle.std.proofs.lemmas.Option.{none-some, same_Some}
 use Rattle.std.specs.Cmp.{nat_cmp_total}
@@ -14,11 +15,14 @@ use Rattle.posix_terms.specs.declared.object.End.{End}
 use Rattle.posix_terms.specs.declared.object.End.TheVariants as part
 use Rattle.posix_terms.specs.declared.object.Side.TheVariants.{Side0, Side1}
 use Rattle.sequential_object.specs.Acts.{Acted}
-use Rattle.sequential_object.specs.Changes.{NewEnd, changed, closed, door_of, door_opened, flagged, opened_at, with_ends, without_lost, without_name, renamed}
-use Rattle.sequential_object.specs.Descriptors.{freed, has_description, has_descriptor, has_end, has_path, opened, released, without_unused}
+use Rattle.sequential_object.specs.Changes.{NewEnd, changed, closed, door_of, door_opened, flagged, opened_at}
+use Rattle.sequential_object.specs.Changes.{with_ends, without_lost, without_name, renamed}
+use Rattle.sequential_object.specs.Descriptors.{freed, has_description, has_descriptor, has_end, has_path, opened}
+use Rattle.sequential_object.specs.Descriptors.{released, without_unused}
 use Rattle.sequential_object.specs.Ends.{StartsMatched, StepsKeepMatched}
 use Rattle.sequential_object.specs.Meant.{acted_at, description_of, holding, key_of, moved_to, offset_in, put, seen}
-use Rattle.sequential_object.specs.Object.{Content, Description, DoorTo, File, Pair, Pipe, State, content_of, with_object}
+use Rattle.sequential_object.specs.Object.{Content, Description, DoorTo, File, Pair, Pipe, State, content_of}
+use Rattle.sequential_object.specs.Object.{with_object}
 use Rattle.sequential_object.specs.So.{Can, CanAct, CanEnds, ChangesWith, IsNamed, IsOpening}
 use Rattle.sequential_object.specs.Step.{step}
 use Rattle.sequential_object.specs.Streams.{new_pair}
@@ -33,7 +37,8 @@ use Rattle.sequential_object.proofs.Kept.{Keeps, after_act, step_keeps}
 use Rattle.sequential_object.proofs.Maps.{insert_other, insert_same, inserted_is, left_is}
 use Rattle.sequential_object.proofs.Seeing.{next_is}
 use Rattle.sequential_object.proofs.Tidy.{IsTidy, tidy_of}
-use Rattle.sequential_object.proofs.Unused.{Stays, is_alike, kind_stays, moved_objects, moved_tidy, named_file, opens_file, tidy_kept}
+use Rattle.sequential_object.proofs.Unused.{Stays, is_alike, kind_stays, moved_objects, moved_tidy, named_file}
+use Rattle.sequential_object.proofs.Unused.{opens_file, tidy_kept}
 use Rattle.sequential_object.proofs.Whole.{IsWhole, some_is}
 
 -- ## Ends

@@ -1,5 +1,6 @@
 -- What calls that go outside lock and leave.
-use Rattle.std.proofs.Common.{◌≡◌, ◌&&◌, ℕ, ◌+◌, Bool, true, false, Option, Some, None, Result, Ok, Err, if◌then◌else◌, is_some, ap, refl, sym, subst, ◌∙◌}
+use Rattle.std.proofs.Common.{◌≡◌, ◌&&◌, ℕ, ◌+◌, Bool, true, false, Option, Some, None, Result, Ok, Err, if◌then◌else◌}
+use Rattle.std.proofs.Common.{is_some, ap, refl, sym, subst, ◌∙◌}
 use Rattle.std.proofs.lemmas.Bool.{false≢true, true≢false}
 use Rattle.std.specs.Prelude.{IfOk, nat_lt, ℤ, pos}
 use Rattle.posix_terms.specs.Calls.{Call}
@@ -15,7 +16,8 @@ use Rattle.sequential_object.specs.Changes.{changed}
 use Rattle.sequential_object.specs.Decided.{decided}
 use Rattle.sequential_object.specs.Deciding.{leads_outside}
 use Rattle.sequential_object.specs.Effects.{Effect, nothing_moved}
-use Rattle.sequential_object.specs.Locked.{HasDoor, KeepsOutside, LeavesAlike, LocksDoor, OutsideLocks, keeps_table, locked_object}
+use Rattle.sequential_object.specs.Locked.{HasDoor, KeepsOutside, LeavesAlike, LocksDoor, OutsideLocks, keeps_table}
+use Rattle.sequential_object.specs.Locked.{locked_object}
 use Rattle.sequential_object.specs.Meant.{acted_at, ended, locks_of, meant, put, seen}
 use Rattle.sequential_object.specs.Object.{State}
 use Rattle.sequential_object.specs.So.{IsDoor, IsLastDoor, IsSo}
@@ -100,7 +102,8 @@ waited_leaves settings after moved carried = by_test (nat_lt (carried.turns + 1)
     by_test false = refl
 
 -- a turn that is blocked changes nothing
-pub waited_alone : (settings : Settings) (s : State) (carried : Carried) → (waited settings s nothing_moved carried).after ≡ s
+pub waited_alone : (settings : Settings) (s : State) (carried : Carried)
+    → (waited settings s nothing_moved carried).after ≡ s
 waited_alone settings s carried = waited_leaves settings s nothing_moved carried
 
 module _ (settings : Settings) (s : State) (carried : Carried) where
@@ -112,14 +115,16 @@ module _ (settings : Settings) (s : State) (carried : Carried) where
   ends_alike after (Replies r) o = refl
   ends_alike after (ending.Blocks moved) o = refl
 
-  asks_alike : (e : Errno) (b : Bool) → (if b && is_again e then waited settings s nothing_moved carried else failed s e).after ≡ s
+  asks_alike : (e : Errno) (b : Bool)
+      → (if b && is_again e then waited settings s nothing_moved carried else failed s e).after ≡ s
   asks_alike e b = by_test (b && is_again e)
     where
       by_test : (b : Bool) → (if b then waited settings s nothing_moved carried else failed s e).after ≡ s
       by_test true = waited_alone settings s carried
       by_test false = refl
 
-  leaves : (c : Call) (r : Result Decision Errno) (o : Option Outcome) → IfOk r (IsSo (seen s) c) → keeps_table c ≡ false
+  leaves : (c : Call) (r : Result Decision Errno) (o : Option Outcome) → IfOk r (IsSo (seen s) c)
+      → keeps_table c ≡ false
       → left o (meant s c r) ≡ left None (meant s c r)
   leaves c (Err e) o so frees = refl
   leaves c (Ok (decision.Replies r x)) o so frees = refl
@@ -133,7 +138,9 @@ module _ (settings : Settings) (s : State) (carried : Carried) where
   leaves c (Ok (decision.Locks object (deed.Closes n key))) (Some (out.Ok value bytes)) so frees = refl
   leaves c (Ok (decision.Locks object (deed.Closes n key))) (Some (out.Fail e)) so frees = refl
   leaves c (Ok (decision.Locks object (deed.Closes n key))) None so frees = refl
-  leaves c (Ok (decision.Locks object (deed.Opens blocks listener new))) o so frees = absurd (true≢false (sym so.0.keeps ∙ frees))
+  leaves c (Ok (decision.Locks object (deed.Opens blocks listener new))) o so frees =
+      absurd (true≢false (sym so.0.keeps ∙ frees))
 
 pub leaves_alike : LeavesAlike
-leaves_alike settings s c o carried frees = leaves settings s carried c (decided (seen s) c carried.moved) o (so_of s c carried.moved) frees
+leaves_alike settings s c o carried frees = leaves settings s carried c (decided (seen s) c carried.moved) o
+    (so_of s c carried.moved) frees

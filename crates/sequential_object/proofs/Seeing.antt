@@ -1,5 +1,6 @@
 -- What a call sees of a state is there.
-use Rattle.std.proofs.Common.{◌≡◌, ℕ, zero, suc, ◌+◌, ◌-◌, ◌<◌, ◌≤◌, ℤ, pos, List, [], ◌∷◌, Bool, true, false, Option, Some, None, is_some, Result, Ok, Err, if◌then◌else◌, ap, refl, sym, subst, ◌∙◌, arith}
+use Rattle.std.proofs.Common.{◌≡◌, ℕ, zero, suc, ◌+◌, ◌-◌, ◌<◌, ◌≤◌, ℤ, pos, List, [], ◌∷◌, Bool, true, false, Option}
+use Rattle.std.proofs.Common.{Some, None, is_some, Result, Ok, Err, if◌then◌else◌, ap, refl, sym, subst, ◌∙◌, arith}
 use Rattle.std.proofs.lemmas.Bool.{true≢false}
 use Rattle.std.proofs.lemmas.Option.{none-some, same_Some}
 use Rattle.std.specs.FinMap as fin
@@ -12,7 +13,8 @@ use Rattle.sequential_object.specs.Descriptors.{described, key_at, lowest_from}
 use Rattle.sequential_object.specs.Meant.{seen, seen_of}
 use Rattle.sequential_object.specs.Names.{PathMap}
 use Rattle.sequential_object.specs.Object.{Description, Directory, FileNode, Node, State}
-use Rattle.sequential_object.specs.Paths.{components_of, has_trailing_slash, is_dots, node_at, path_form, resolved, walked}
+use Rattle.sequential_object.specs.Paths.{components_of, has_trailing_slash, is_dots, node_at, path_form, resolved}
+use Rattle.sequential_object.specs.Paths.{walked}
 use Rattle.sequential_object.specs.Refusals.{◌>>=◌, refuse_if, some_or}
 use Rattle.sequential_object.specs.declared.decision.Seen.{Seen}
 use Rattle.sequential_object.proofs.Binds.{gave, same_ok}
@@ -36,18 +38,23 @@ keyed s key o = some_or o EBADF >>= (λ (d : Description). Ok (key, d))
 abbrev found_at : State → Option ℕ → Result (ℕ × Description) Errno
 found_at s o = some_or o EBADF >>= (λ (key : ℕ). keyed s key (fin.get s.descriptions key))
 
-key_found : (s : State) (o : Option ℕ) (found : ℕ × Description) → found_at s o ≡ Ok found → (o ≡ Some found.0) × (fin.get s.descriptions found.0 ≡ Some found.1)
+key_found : (s : State) (o : Option ℕ) (found : ℕ × Description) → found_at s o ≡ Ok found → (o ≡ Some found.0)
+    × (fin.get s.descriptions found.0 ≡ Some found.1)
 key_found s o found h =
     let one = gave (some_or o EBADF) _ found h in
     let two = gave (some_or (fin.get s.descriptions one.0) EBADF) _ found one.1.1 in
     let same : (one.0, two.0) ≡ found = same_ok (one.0, two.0) found two.1.1 in
-    subst (λ (p : ℕ × Description). (o ≡ Some p.0) × (fin.get s.descriptions p.0 ≡ Some p.1)) same (some_gave o EBADF one.0 one.1.0, some_gave (fin.get s.descriptions one.0) EBADF two.0 two.1.0)
+    subst (λ (p : ℕ × Description). (o ≡ Some p.0) × (fin.get s.descriptions p.0 ≡ Some p.1)) same
+    (some_gave o EBADF one.0 one.1.0, some_gave (fin.get s.descriptions one.0) EBADF two.0 two.1.0)
 
-pub is_found : (s : State) (descriptor : ℤ) (found : ℕ × Description) → described s descriptor ≡ Ok found → Found s descriptor found.0 found.1
-is_found s descriptor found h = let its = key_found s (key_at s descriptor) found h in record { at = its.0; there = its.1 }
+pub is_found : (s : State) (descriptor : ℤ) (found : ℕ × Description) → described s descriptor ≡ Ok found
+    → Found s descriptor found.0 found.1
+is_found s descriptor found h = let its = key_found s (key_at s descriptor) found h in
+    record { at = its.0; there = its.1 }
 
 -- a descriptor that refers to a description is found
-pub found_of : (s : State) (n key : ℕ) (d : Description) → fin.get s.descriptors n ≡ Some key → fin.get s.descriptions key ≡ Some d → described s (pos n) ≡ Ok (key, d)
+pub found_of : (s : State) (n key : ℕ) (d : Description) → fin.get s.descriptors n ≡ Some key
+    → fin.get s.descriptions key ≡ Some d → described s (pos n) ≡ Ok (key, d)
 found_of s n key d at there = ap (found_at s) at ∙ ap (keyed s key) there
 
 -- what was seen by a descriptor
@@ -57,7 +64,8 @@ pub record IsFound (s : State) (descriptor : ℤ) (at : Seen) : Type 0 where
   pub found : Found s descriptor at.key description
   pub is_seen : at ≡ seen_of s descriptor (at.key, description)
 
-pub shown_by : (s : State) (descriptor : ℤ) (at : Seen) → (let v = seen s in v.described descriptor ≡ Ok at) → IsFound s descriptor at
+pub shown_by : (s : State) (descriptor : ℤ) (at : Seen) → (let v = seen s in v.described descriptor ≡ Ok at)
+    → IsFound s descriptor at
 unfolding seen
 shown_by s descriptor at is =
     let one = gave (described s descriptor) _ at is in
@@ -70,7 +78,8 @@ shown_by s descriptor at is =
     })
 
 -- and what was not
-pub not_shown : (s : State) (descriptor : ℤ) (e : Errno) → (let v = seen s in v.described descriptor ≡ Err e) → (found : ℕ × Description) → described s descriptor ≡ Ok found → ⊥
+pub not_shown : (s : State) (descriptor : ℤ) (e : Errno) → (let v = seen s in v.described descriptor ≡ Err e)
+    → (found : ℕ × Description) → described s descriptor ≡ Ok found → ⊥
 unfolding seen
 not_shown s descriptor e is found its =
     let shown : ◌≡◌ {A = Result Seen Errno} (Ok (seen_of s descriptor found)) (Err e) =
@@ -88,10 +97,15 @@ record IsLowest (s : State) (left first n : ℕ) : Type 0 where
 lowest_is : (s : State) (left first n : ℕ) → lowest_from s left first ≡ Some n → IsLowest s left first n
 unfolding lowest_from
 lowest_is s zero first n is = absurd (none-some n is)
-lowest_is s (suc left) first n is = by_test (fin.get s.descriptors first) refl is (λ later. lowest_is s left (first + 1) n later)
+lowest_is s (suc left) first n is =
+    by_test (fin.get s.descriptors first) refl is (λ later. lowest_is s left (first + 1) n later)
   where
     here : fin.get s.descriptors first ≡ None → first ≡ n → IsLowest s (suc left) first n
-    here free same = record { free = ap (fin.get s.descriptors) (sym same) ∙ free; least = omega arith; below = omega arith }
+    here free same = record {
+      free = ap (fin.get s.descriptors) (sym same) ∙ free;
+      least = omega arith;
+      below = omega arith;
+    }
 
     further : IsLowest s left (first + 1) n → IsLowest s (suc left) first n
     further it =
@@ -99,7 +113,9 @@ lowest_is s (suc left) first n is = by_test (fin.get s.descriptors first) refl i
         let below : n < first + 1 + left = it.below in
         record { free = it.free; least = omega arith; below = omega arith }
 
-    by_test : (o : Option ℕ) → fin.get s.descriptors first ≡ o → (if is_some o then lowest_from s left (first + 1) else Some first) ≡ Some n → (lowest_from s left (first + 1) ≡ Some n → IsLowest s left (first + 1) n) → IsLowest s (suc left) first n
+    by_test : (o : Option ℕ) → fin.get s.descriptors first ≡ o
+        → (if is_some o then lowest_from s left (first + 1) else Some first) ≡ Some n
+        → (lowest_from s left (first + 1) ≡ Some n → IsLowest s left (first + 1) n) → IsLowest s (suc left) first n
     by_test (Some key) at is later = further (later is)
     by_test None at is later = here at (same_Some first n is)
 
@@ -114,7 +130,8 @@ free_from s least n is =
 -- ## Names
 
 -- a path whose prefix is there has its own components
-resolved_is : (paths : PathMap) (path : List ℕ) (components : List (List ℕ)) → resolved paths path ≡ Ok components → components ≡ components_of path
+resolved_is : (paths : PathMap) (path : List ℕ) (components : List (List ℕ)) → resolved paths path ≡ Ok components
+    → components ≡ components_of path
 unfolding path_form
 resolved_is paths path components h =
     let one = gave (path_form path) _ components h in
@@ -128,21 +145,25 @@ resolved_is paths path components h =
         let c = gave (refuse_if (list_any (λ b. b == 0) path) EINVAL) _ k b.1.1 in
         let d = gave (refuse_if (list_any is_dots (components_of path)) EINVAL) _ k c.1.1 in
         let e = gave (refuse_if (has_trailing_slash path) EINVAL) _ k d.1.1 in
-        let f = gave (refuse_if (list_any (λ name. nat_lt limit.NAME_BYTES (length name)) (components_of path)) ENAMETOOLONG) _ k e.1.1 in
+        let f = gave (refuse_if (list_any (λ name. nat_lt limit.NAME_BYTES (length name)) (components_of path))
+        ENAMETOOLONG) _ k e.1.1 in
         sym (same_ok (components_of path) k f.1.1)
 
-pub named_at : (s : State) (path : List ℕ) (o : Option Node) → (let v = seen s in v.named path ≡ Ok o) → node_at s.paths (components_of path) ≡ o
+pub named_at : (s : State) (path : List ℕ) (o : Option Node) → (let v = seen s in v.named path ≡ Ok o)
+    → node_at s.paths (components_of path) ≡ o
 unfolding seen
 named_at s path o is =
     let one = gave (resolved s.paths path) _ o is in
     ap (node_at s.paths) (sym (resolved_is s.paths path one.0 one.1.0)) ∙ same_ok (node_at s.paths one.0) o one.1.1
 
 -- nothing stands where nothing is named
-pub no_node : (paths : PathMap) (components : List (List ℕ)) → node_at paths components ≡ None → fin.get paths components ≡ None
+pub no_node : (paths : PathMap) (components : List (List ℕ)) → node_at paths components ≡ None
+    → fin.get paths components ≡ None
 no_node paths [] is = absurd (none-some Directory (sym is))
 no_node paths (name ∷ names) is = is
 
-pub file_there : (paths : PathMap) (components : List (List ℕ)) (object : ℕ) → node_at paths components ≡ Some (FileNode object) → fin.get paths components ≡ Some (FileNode object)
+pub file_there : (paths : PathMap) (components : List (List ℕ)) (object : ℕ)
+    → node_at paths components ≡ Some (FileNode object) → fin.get paths components ≡ Some (FileNode object)
 file_there paths [] object is = cc
 file_there paths (name ∷ names) object is = is
 

@@ -319,7 +319,8 @@ unfolding seen
 numbered s (pos n) at is = grind (arith, is)
 numbered s (negsuc n) at is = grind (arith, is)
 
-is_shown : (s : State) (descriptor : ℤ) (at : Seen) → (let v = seen s in v.described descriptor ≡ Ok at) → IsShown s descriptor at
+is_shown : (s : State) (descriptor : ℤ) (at : Seen) → (let v = seen s in v.described descriptor ≡ Ok at)
+    → IsShown s descriptor at
 is_shown s descriptor at is =
     let its = shown_by s descriptor at is in
     record {
@@ -336,7 +337,8 @@ shows s = record {
   numbered = numbered s;
   described = is_shown s;
   next = next_is s;
-  named = λ path object is. file_there s.paths (components_of path) object (named_at s path (Some (FileNode object)) is);
+  named = λ path object is. file_there s.paths (components_of path) object
+      (named_at s path (Some (FileNode object)) is);
 }
 
 pub decided_so : DecidedSo

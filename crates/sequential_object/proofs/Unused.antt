@@ -1,5 +1,6 @@
 -- Each turn of each call leaves a state that holds nothing unused.
-use Rattle.std.proofs.Common.{◌≡◌, ℕ, List, [], Bool, true, false, Option, Some, None, is_some, inl, inr, ap, arith, refl, sym, subst, ◌∙◌}
+use Rattle.std.proofs.Common.{◌≡◌, ℕ, List, [], Bool, true, false, Option, Some, None, is_some, inl, inr, ap, arith}
+use Rattle.std.proofs.Common.{refl, sym, subst, ◌∙◌}
 use Rattle.std.proofs.lemmas.Bool.{false≢true}
 use Rattle.std.specs.FinMap as fin
 use Rattle.std.specs.Prelude.{IfSome, unwrap_or}
@@ -110,11 +111,13 @@ opens_file s c object a x can with h = tt
 abbrev IsThereFor : State → ℕ → Option Content → Type 0
 IsThereFor s object new = IfSome new (λ c. is_some (fin.get s.objects object) ≡ true)
 
-there_for : (s : State) (object : ℕ) (new : Option Content) → is_some (fin.get s.objects object) ≡ true → IsThereFor s object new
+there_for : (s : State) (object : ℕ) (new : Option Content) → is_some (fin.get s.objects object) ≡ true
+    → IsThereFor s object new
 there_for s object (Some c) there = there
 there_for s object None there = tt
 
-seen_there : (s : State) (object : ℕ) (at : Seen) → IsTidy s → IsSeen (seen s) at → at.object ≡ object → is_some (fin.get s.objects object) ≡ true
+seen_there : (s : State) (object : ℕ) (at : Seen) → IsTidy s → IsSeen (seen s) at → at.object ≡ object
+    → is_some (fin.get s.objects object) ≡ true
 seen_there s object at h found own =
     let its = shown_by s found.descriptor at found.found in
     ap (λ (k : ℕ). is_some (fin.get s.objects k)) (sym own ∙ ap (λ (x : Seen). x.object) its.is_seen)
@@ -135,59 +138,76 @@ moved_tidy s (Some to) (Some key) h = by_there (fin.get s.descriptions key) refl
     by_there (Some d) there = own_tidy s key d (record d { offset = to }) there refl h
     by_there None none = h
 
-pub moved_objects : (s : State) (offset key : Option ℕ) (o : Option Description) → (let after = moved_to s offset key o in after.objects) ≡ s.objects
+pub moved_objects : (s : State) (offset key : Option ℕ) (o : Option Description)
+    → (let after = moved_to s offset key o in after.objects) ≡ s.objects
 moved_objects s None key o = refl
 moved_objects s (Some to) None o = refl
 moved_objects s (Some to) (Some key) None = refl
 moved_objects s (Some to) (Some key) (Some d) = refl
 
-used_again : (s : State) (object : ℕ) (old new : Content) → (is_a_file (Some old) ≡ true → is_a_file (Some new) ≡ true) → Used s object old → Used s object new
+used_again : (s : State) (object : ℕ) (old new : Content) → (is_a_file (Some old) ≡ true → is_a_file (Some new) ≡ true)
+    → Used s object old → Used s object new
 used_again s object old new kind (inl d) = inl d
 used_again s object old new kind (inr n) = inr (kind n.0, n.1)
 
 -- what an object holds
-held_tidy : (s : State) (object : ℕ) (new : Option Content) → Stays (content_of s object) new → IsThereFor s object new → IsTidy s → IsTidy (holding s object new)
+held_tidy : (s : State) (object : ℕ) (new : Option Content) → Stays (content_of s object) new → IsThereFor s object new
+    → IsTidy s → IsTidy (holding s object new)
 held_tidy s object None stays there h = h
 held_tidy s object (Some c) stays there h =
     let (old, at) = some_is (fin.get s.objects object) there in
     let own : content_of s object ≡ old = ap (λ (o : Option Content). unwrap_or o (File [])) at in
     let kind = alike_file old c (subst (λ (x : Content). is_alike x c ≡ true) own stays) in
-    content_tidy s object c (used_again s object old c kind (h.uses object old at)) (λ file. kind (ap is_a_file (sym at) ∙ file)) h
+    content_tidy s object c (used_again s object old c kind (h.uses object old at))
+    (λ file. kind (ap is_a_file (sym at) ∙ file)) h
 
-put_tidy : (s : State) (object : ℕ) (a : Act) (done : Acted) → Stays (content_of s object) done.content → IsThereFor s object done.content → IsTidy s → IsTidy (put s object a done)
+put_tidy : (s : State) (object : ℕ) (a : Act) (done : Acted) → Stays (content_of s object) done.content
+    → IsThereFor s object done.content → IsTidy s → IsTidy (put s object a done)
 put_tidy s object a done stays there h =
     let d = description_of s (key_of a) in
     let after : State = moved_to s done.offset (key_of a) d in
     let same = moved_objects s done.offset (key_of a) d in
     held_tidy after object done.content
-    (subst (λ (m : FinMap nat_cmp Content). Stays (unwrap_or (fin.get m object) (File [])) done.content) (sym same) stays)
-    (subst (λ (m : FinMap nat_cmp Content). IfSome done.content (λ c. is_some (fin.get m object) ≡ true)) (sym same) there)
+    (subst (λ (m : FinMap nat_cmp Content). Stays (unwrap_or (fin.get m object) (File [])) done.content) (sym same)
+    stays)
+    (subst (λ (m : FinMap nat_cmp Content). IfSome done.content (λ c. is_some (fin.get m object) ≡ true)) (sym same)
+    there)
     (moved_tidy s done.offset (key_of a) h)
 
-act_there : (s : State) (c : Call) (object : ℕ) (a : Act) (x : Change) (content : Content) (offset : ℕ) (has : End → Bool) → CanAct (seen s) c object a → ChangesWith object a x → IsTidy s
+act_there : (s : State) (c : Call) (object : ℕ) (a : Act) (x : Change) (content : Content) (offset : ℕ) (has : End
+    → Bool) → CanAct (seen s) c object a → ChangesWith object a x → IsTidy s
     → IsThereFor (changed s c x) object (let done = acted has a c content offset in done.content)
 act_there s c object (act.Open n cut) x content offset has can (new, is, own) h =
-    rw is (there_for s object (let done = acted has (act.Open n cut) c content offset in done.content) (named_there s object h can.0))
+    rw is (there_for s object (let done = acted has (act.Open n cut) c content offset in done.content)
+    (named_there s object h can.0))
 act_there s c object (act.Create n) x content offset has can with h = tt
 act_there s c object act.Release x content offset has can with h = tt
 act_there s c object (act.Pipe first second) x content offset has can with h = tt
 act_there s c object (act.Socketpair first second) x content offset has can with h = tt
 act_there s c object (act.Read from count) x content offset has can with h =
-    rw with (there_for s object (let done = acted has (act.Read from count) c content offset in done.content) (seen_there s object from h can.0.found can.0.object_is))
+    rw with (there_for s object (let done = acted has (act.Read from count) c content offset in done.content)
+    (seen_there s object from h can.0.found can.0.object_is))
 act_there s c object (act.Write to before) x content offset has can with h =
-    rw with (there_for s object (let done = acted has (act.Write to before) c content offset in done.content) (seen_there s object to h can.found can.object_is))
+    rw with (there_for s object (let done = acted has (act.Write to before) c content offset in done.content)
+    (seen_there s object to h can.found can.object_is))
 act_there s c object (act.Pread count position) x content offset has can with h =
-    rw with (there_for s object (let done = acted has (act.Pread count position) c content offset in done.content) (seen_there s object can.0.at h can.0.file.found can.0.file.object_is))
+    rw with (there_for s object (let done = acted has (act.Pread count position) c content offset in done.content)
+    (seen_there s object can.0.at h can.0.file.found can.0.file.object_is))
 act_there s c object (act.Pwrite start) x content offset has can with h =
-    rw with (there_for s object (let done = acted has (act.Pwrite start) c content offset in done.content) (seen_there s object can.at h can.file.found can.file.object_is))
+    rw with (there_for s object (let done = acted has (act.Pwrite start) c content offset in done.content)
+    (seen_there s object can.at h can.file.found can.file.object_is))
 act_there s c object (act.Lseek at) x content offset has can with h =
-    rw with (there_for s object (let done = acted has (act.Lseek at) c content offset in done.content) (seen_there s object at h can.found can.object_is))
+    rw with (there_for s object (let done = acted has (act.Lseek at) c content offset in done.content)
+    (seen_there s object at h can.found can.object_is))
 act_there s c object (act.Ftruncate size) x content offset has can with h =
-    rw with (there_for s object (let done = acted has (act.Ftruncate size) c content offset in done.content) (seen_there s object can.0.at h can.0.file.found can.0.file.object_is))
+    rw with (there_for s object (let done = acted has (act.Ftruncate size) c content offset in done.content)
+    (seen_there s object can.0.at h can.0.file.found can.0.file.object_is))
 act_there s c object (act.Fstat links) x content offset has can with h =
-    rw with (there_for s object (let done = acted has (act.Fstat links) c content offset in done.content) (seen_there s object can.at h can.file.found can.file.object_is))
+    rw with (there_for s object (let done = acted has (act.Fstat links) c content offset in done.content)
+    (seen_there s object can.at h can.file.found can.file.object_is))
 act_there s c object (act.Shutdown side how) x content offset has can with h =
-    rw with (there_for s object (let done = acted has (act.Shutdown side how) c content offset in done.content) (seen_there s object can.at h can.found can.object_is))
+    rw with (there_for s object (let done = acted has (act.Shutdown side how) c content offset in done.content)
+    (seen_there s object can.at h can.found can.object_is))
 
 -- ## The step
 

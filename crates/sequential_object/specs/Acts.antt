@@ -38,6 +38,7 @@ abbrev pub offset_of : ℤ → Result ℕ Errno
 offset_of (pos n) = if nat_lt n (2 ^ 63) then Ok n else Err EOVERFLOW
 offset_of (negsuc n) = Err EINVAL
 
+-- where `lseek` counts from: the start of a file, the offset, or the end of the file
 abbrev pub base_of : Whence → ℕ → ℕ → ℕ
 base_of whence.Set offset size = 0
 base_of whence.Current offset size = offset
@@ -55,12 +56,15 @@ pub record Acted : Type 0 where
   pub content : Option Content
   pub offset : Option ℕ
 
+-- an act that ends so, and leaves content and offset as they were
 abbrev pub concludes : Ending → Acted
 concludes ending = record { ending = ending; content = None; offset = None }
 
+-- an act that is done with this reply, and leaves content and offset as they were
 abbrev pub replies : Reply → Acted
 replies r = concludes (Replies r)
 
+-- an act that ends so and leaves this in its object, and the offset as it was
 abbrev pub holds : Ending → Content → Acted
 holds ending content = record { ending = ending; content = Some content; offset = None }
 
@@ -102,6 +106,7 @@ write_at bytes file start =
     if length bytes == 0 then replies (reply.Count 0) else
     wrote (written file start bytes) (λ count. None)
 
+-- an `lseek` that sets this offset, or is refused
 abbrev pub sought : Result ℕ Errno → Acted
 sought (Ok to) = record {
   ending = Replies (reply.Number (pos to));
@@ -163,6 +168,7 @@ read_acted has_end from count (Pair p) offset =
 -- never met: a door is read outside
 read_acted has_end from count (DoorTo door) offset = replies reply.Done
 
+-- a write, of which so many bytes moved before
 abbrev pub write_acted : (End → Bool) → Seen → List ℕ → ℕ → Content → ℕ → Acted
 write_acted has_end to bytes before (File file) offset = write_file to bytes file offset
 write_acted has_end to bytes before (Pipe waiting) offset =
@@ -181,6 +187,7 @@ abbrev pub released_reply : Call → Reply
 released_reply (call.Dup2 descriptor target) = reply.Number target
 released_reply c = reply.Done
 
+-- what an act does for a call, with an object that holds this and at this offset
 abbrev pub acted : (End → Bool) → Act → Call → Content → ℕ → Acted
 acted has_end (act.Open n cut) c content offset =
     if cut then holds (Replies (reply.Number (pos n))) (File []) else

@@ -14,6 +14,7 @@ use Rattle.sequential_object.specs.Worlds.{World}
 use Rattle.sequential_object.specs.declared.turn_end.TurnEnd.{TurnEnd}
 use Rattle.sequential_object.specs.declared.turn_end.TurnEnd.TheVariants as turn_end
 
+-- how a turn ends that is answered so: with its reply, or blocked with what the call carries on
 abbrev pub answered_with : posix.Answer → Carried → TurnEnd
 answered_with (answer.Reply r) b = turn_end.Reply r
 answered_with answer.Again b = turn_end.Blocked b
@@ -22,6 +23,7 @@ answered_with answer.Again b = turn_end.Blocked b
 abbrev pub answer_in : Stepped → TurnEnd
 answer_in stepped = answered_with stepped.answer stepped.carried
 
+-- the number of the object that a call is about, if it is about one
 abbrev pub numbered : World → Option ℕ → Option ℕ
 numbered w None = None
 numbered w (Some object) = Some (number_of w object)
@@ -31,6 +33,7 @@ abbrev pub answers_query : Option Query → Given → Bool
 answers_query (Some q) g = suits q.kind q.asked g
 answers_query None g = false
 
+-- the outcome of what came for a call, if anything came
 abbrev pub outcome_in : Option Given → Option Outcome
 outcome_in None = None
 outcome_in (Some g) = Some g.outcome

@@ -29,6 +29,7 @@ pub record NewEnd : Type 0 where
   pub which : End
   pub access : Access
 
+-- the description of this key has these flags from now on
 abbrev pub with_flags : State → ℕ → Description → Bool → Bool → State
 with_flags s key d append nonblock =
     record s {
@@ -87,11 +88,13 @@ abbrev pub without_lost : State → Option ℕ → State
 without_lost s (Some object) = without_unused s object
 without_lost s None = s
 
+-- the new path of the call names this file from now on, and the old one nothing
 abbrev pub renamed : State → Call → ℕ → State
 renamed s c object =
     with_paths s
     (moved s.paths (components_of (old_path_of c)) (components_of (path_of c)) object)
 
+-- a new descriptor of this end of its object
 abbrev pub opened_at : State → NewDescriptor → End → State
 opened_at s new which =
     opened s new.number new.object which new.access new.append new.nonblock
@@ -105,6 +108,7 @@ with_ends s content one other new =
 
 -- ## All changes
 
+-- the state after a change of a call
 abbrev pub changed : State → Call → Change → State
 changed s c change.Nothing = s
 changed s c (change.Share n key) = shared s n key

@@ -1,8 +1,8 @@
 -- Believed: a contract of the headline stands on it.
 -- What is decided of each call, by what it may look at: its refusals first and in their order, then
 -- the reply of the table, or the object to lock and the act there, or the request to the outside;
--- and what is changed. A `write` also looks at what it moved before. What an object is, is told by
--- the end that a description is of: that of a door has its kind and its port.
+-- and what is changed. A `write` also looks at what it moved before. What an object is, is seen
+-- from the end that a description is of: that of a door has its kind and its port.
 -- POSIX.1-2017, System Interfaces; choices and departures are in docs/profile.md.
 use Rattle.std.specs.Prelude.{length, Result}
 use Rattle.posix_terms.specs.declared.carried.Moved.{Moved}
@@ -21,6 +21,7 @@ use Rattle.sequential_object.specs.Transfers.{ftruncate_decided, lseek_decided, 
 use Rattle.sequential_object.specs.Transfers.{pwrite_decided, read_decided, write_decided}
 use Rattle.posix_terms.specs.declared.call.Call.TheVariants as call
 
+-- what is decided of a call that moved so much before, or why it is refused
 abbrev pub decided : View → Call → Moved → Result Decision Errno
 decided v (call.Open path access flags) moved = open_decided v path access flags
 decided v (call.Close descriptor) moved = close_decided v descriptor

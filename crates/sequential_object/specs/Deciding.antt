@@ -23,9 +23,11 @@ tells r = decision.Replies r change.Nothing
 abbrev pub locks : Seen → Act → Decision
 locks at does = decision.Locks at.object (deed.Acts does change.Nothing)
 
+-- whether a descriptor is of a regular file
 abbrev pub is_file : Seen → Bool
 is_file at = is_end at.«end» part.Only
 
+-- whether an end is that of a door
 abbrev pub leads_outside : End → Bool
 leads_outside (part.Door door) = true
 leads_outside e = false

@@ -60,36 +60,41 @@ with_file s components =
       next_object = s.next_object + 1;
     }
 
--- what refers to a description, and what to an object
+-- whether a descriptor refers to the description of this key
 abbrev pub is_key : Option ℕ → ℕ → Bool
 is_key None key = false
 is_key (Some other) key = other == key
 
+-- whether a description is of this object
 abbrev pub is_of : Option Description → ℕ → Bool
 is_of None object = false
 is_of (Some d) object = d.object == object
 
--- and what to an end of one
+-- whether a description is of this end of an object
 abbrev pub is_of_end : Option Description → ℕ → End → Bool
 is_of_end None object which = false
 is_of_end (Some d) object which = (d.object == object) && is_end d.«end» which
 
+-- whether what a path names is this file
 abbrev pub is_file : Node → ℕ → Bool
 is_file (FileNode other) object = other == object
 is_file Directory object = false
 
+-- whether any descriptor refers to the description of this key
 abbrev pub has_descriptor : State → ℕ → Bool
 has_descriptor s key = any_below limit.DESCRIPTORS (λ n. is_key (map.get s.descriptors n) key)
 
--- keys in use are below the next one
+-- whether any description is of this object; keys in use are below the next one
 abbrev pub has_description : State → ℕ → Bool
 has_description s object =
     any_below s.next_description (λ key. is_of (map.get s.descriptions key) object)
 
+-- whether any description is of this end of an object
 abbrev pub has_end : State → ℕ → End → Bool
 has_end s object which =
     any_below s.next_description (λ key. is_of_end (map.get s.descriptions key) object which)
 
+-- whether a path names this file
 abbrev pub has_path : State → ℕ → Bool
 has_path s object =
     list_any (λ (entry : List (List ℕ) × Node). is_file entry.1 object) (map.entries s.paths)
@@ -107,6 +112,7 @@ released s key d =
     if has_descriptor s key then s else
     without_unused (record s { descriptions = map.remove s.descriptions key }) d.object
 
+-- a descriptor is not open any more; its description is left as it was
 abbrev pub freed : State → ℤ → State
 freed s (pos n) = record s { descriptors = map.remove s.descriptors n }
 freed s (negsuc n) = s

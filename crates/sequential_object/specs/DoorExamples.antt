@@ -1,7 +1,8 @@
 -- Internal: no contract of the headline or of a command stands on it.
 -- Examples of calls that go outside, worked out by hand from the rules: one thread's calls, each
 -- with its outcome and its reply.
-use Rattle.std.specs.Prelude.{◌≡◌, ℕ, pos, negsuc, List, [], ◌∷◌, Bool, map, Option, Some, None, is_some, true, false, codes}
+use Rattle.std.specs.Prelude.{◌≡◌, ℕ, pos, negsuc, List, [], ◌∷◌, Bool, map, Option, Some, None}
+use Rattle.std.specs.Prelude.{is_some, true, false, codes}
 use Rattle.sequential_object.specs.Examples.{appending, creating, plainly}
 use Rattle.sequential_object.specs.Object.{State, empty_state}
 use Rattle.sequential_object.specs.Step.{Carried, asks, nothing_carried, step}
@@ -10,7 +11,8 @@ use Rattle.posix_terms.specs.Calls.{Call}
 use Rattle.posix_terms.specs.declared.call.Call.TheVariants as call
 use Rattle.posix_terms.specs.declared.call.ShutdownHow.TheVariants as how
 use Rattle.posix_terms.specs.declared.call.Whence.TheVariants as whence
-use Rattle.posix_terms.specs.declared.errno.Errno.TheVariants.{EAGAIN, EBADF, EBUSY, EINTR, EINVAL, EIO, ENOENT}
+use Rattle.posix_terms.specs.declared.errno.Errno.TheVariants.{EAGAIN, EBADF, EBUSY, EINTR, EINVAL}
+use Rattle.posix_terms.specs.declared.errno.Errno.TheVariants.{EIO, ENOENT}
 use Rattle.posix_terms.specs.declared.outcome.Outcome.{Outcome}
 use Rattle.posix_terms.specs.declared.outcome.Outcome.TheVariants as outcome
 use Rattle.posix_terms.specs.declared.reply.Answer.{Answer}
@@ -26,9 +28,11 @@ pub record Visit : Type 0 where
   pub outcome : Option Outcome
   pub reply : Reply
 
+-- this call, with this outcome and this reply
 abbrev pub visit : Call → Option Outcome → Reply → Visit
 visit c o r = record { call = c; outcome = o; reply = r }
 
+-- how these calls are answered, made one after another with their outcomes
 abbrev pub visits_from : Settings → State → List Visit → List Answer
 visits_from settings s [] = []
 visits_from settings s (v ∷ visits) =
@@ -50,6 +54,7 @@ Visits visits =
     → (visits_from settings empty_state visits ≡ map (λ (v : Visit). answer.Reply v.reply) visits)
     × (asked_from settings empty_state visits ≡ map (λ (v : Visit). is_some v.outcome) visits)
 
+-- a success outside, with this value and no bytes
 abbrev pub done : ℕ → Option Outcome
 done value = Some (outcome.Ok value [])
 
@@ -110,8 +115,8 @@ no_bytes_of_a_door =
     ∷ visit (call.Write (pos 0) []) None (reply.Count 0)
     ∷ []
 
--- `getfl` tells O_APPEND of a host file. An offset before the start is refused here, and one that
--- counts from the offset the host tells
+-- `getfl` reports O_APPEND of a host file. An offset before the start is refused here; one that
+-- counts from the offset goes to the host
 abbrev pub appended_host_file : List Visit
 appended_host_file =
     visit (call.HostOpen (codes "out") access.WriteOnly appending) (done 0) (reply.Number (pos 0))
@@ -135,6 +140,7 @@ pub record CallTurn : Type 0 where
   pub outcome : Option Outcome
   pub answer : Answer
 
+-- a turn of this call, with this outcome and this answer
 abbrev pub call_turn : Call → Option Outcome → Answer → CallTurn
 call_turn c o a = record { call = c; outcome = o; answer = a }
 
@@ -173,5 +179,6 @@ read_early answers =
 abbrev pub patient_door : List CallTurn
 patient_door = read_early (answer.Again ∷ answer.Reply (reply.Fail EINTR) ∷ answer.Again ∷ [])
 
+-- without patience for another turn the blocked call fails with EINTR at its first one
 abbrev pub impatient_door : List CallTurn
 impatient_door = read_early (answer.Reply (reply.Fail EINTR) ∷ [])

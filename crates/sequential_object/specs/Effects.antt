@@ -18,9 +18,10 @@ pub record Asking : Type 0 where
   pub succeeds : ℕ → List ℕ → State × Reply
   -- what a failure leaves; and what is left while the outcome is missing
   pub otherwise : State
-  -- whether the failure EAGAIN is no reply, but makes the call wait
+  -- whether the failure EAGAIN is not a reply, but makes the call wait
   pub waits : Bool
 
+-- what a call does that is not refused
 pub data Effect : Type 0 where
   -- it is done, and this is its reply
   Completes : (after : State) → (reply : Reply) → Effect

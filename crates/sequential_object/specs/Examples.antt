@@ -10,7 +10,11 @@ use Rattle.posix_terms.specs.declared.call.Call.TheVariants as call
 use Rattle.posix_terms.specs.declared.call.OpenFlags.{OpenFlags}
 use Rattle.posix_terms.specs.declared.call.ShutdownHow.TheVariants as how
 use Rattle.posix_terms.specs.declared.call.Whence.TheVariants as whence
-use Rattle.posix_terms.specs.declared.errno.Errno.TheVariants.{EAGAIN, EBADF, EINVAL, EOVERFLOW, EPIPE, ENOTSOCK, ESPIPE, EFBIG, ENOENT, EEXIST, ENOTDIR, EISDIR, ENOTEMPTY, EPERM, ENAMETOOLONG, EBUSY}
+use Rattle.posix_terms.specs.declared.errno.Errno.TheVariants.{EAGAIN, EBADF, EINVAL, EOVERFLOW}
+use Rattle.posix_terms.specs.declared.errno.Errno.TheVariants.{EPIPE, ENOTSOCK, ESPIPE, EFBIG}
+use Rattle.posix_terms.specs.declared.errno.Errno.TheVariants.{ENOENT, EEXIST, ENOTDIR, EISDIR}
+use Rattle.posix_terms.specs.declared.errno.Errno.TheVariants.{ENOTEMPTY, EPERM, ENAMETOOLONG}
+use Rattle.posix_terms.specs.declared.errno.Errno.TheVariants.{EBUSY}
 use Rattle.posix_terms.specs.declared.reply.Answer.{Answer}
 use Rattle.posix_terms.specs.declared.reply.Answer.TheVariants as answer
 use Rattle.posix_terms.specs.declared.reply.ObjectKind.TheVariants as kind
@@ -43,6 +47,7 @@ Leaves n rows = (settings : Settings)
     → fin.len (state_after settings empty_state (map (λ (row : Call × Reply). row.0) rows)).objects
     ≡ n
 
+-- `open` without flags
 abbrev pub plainly : OpenFlags
 plainly = record {
   create = false;
@@ -52,9 +57,11 @@ plainly = record {
   nonblock = false;
 }
 
+-- `open` with O_CREAT alone
 abbrev pub creating : OpenFlags
 creating = record plainly { create = true }
 
+-- `open` with O_CREAT and O_APPEND
 abbrev pub appending : OpenFlags
 appending = record creating { append = true }
 

@@ -1,7 +1,8 @@
 -- Believed: a contract of the headline stands on it.
 -- The file rules: a file is a list of bytes, and no write takes it past 65,536.
 -- POSIX.1-2017, System Interfaces: `read`, `write`, `ftruncate`.
-use Rattle.std.specs.Prelude.{ℕ, ◌+◌, ◌-◌, List, ◌++◌, length, take, drop, replicate, Result, Ok, Err, if◌then◌else◌, ◌==◌, nat_le}
+use Rattle.std.specs.Prelude.{ℕ, ◌+◌, ◌-◌, List, ◌++◌, length, take, drop, replicate, Result, Ok}
+use Rattle.std.specs.Prelude.{Err, if◌then◌else◌, ◌==◌, nat_le}
 use Rattle.posix_terms.specs.declared.errno.Errno.{Errno}
 use Rattle.posix_terms.specs.declared.errno.Errno.TheVariants.{EFBIG}
 use Rattle.posix_terms.specs.declared.limits.TheConstants.Limits as limit

@@ -1,7 +1,8 @@
 -- Believed: a contract of the headline stands on it.
 -- When a history is legal: going over its rows in the order of their turns, the sequential object
 -- gives just their answers.
-use Rattle.std.specs.Prelude.{◌≡◌, ℕ, List, [], ◌∷◌, Option, Some, None, is_some, true, if◌then◌else◌, ◌==◌}
+use Rattle.std.specs.Prelude.{◌≡◌, ℕ, List, [], ◌∷◌, Option, Some, None, is_some, true}
+use Rattle.std.specs.Prelude.{if◌then◌else◌, ◌==◌}
 use Rattle.sequential_object.specs.Object.{State, empty_state}
 use Rattle.posix_terms.specs.Outcomes.{fits}
 use Rattle.sequential_object.specs.Step.{Carried, Stepped, asks, nothing_carried, step}
@@ -54,5 +55,6 @@ IsLegalFrom settings s carried (row ∷ rows) =
     IsRight (asks s row.call (carried row.turn.thread)) stepped row
     × IsLegalFrom settings stepped.after (carried_on carried row stepped) rows
 
+-- a history is legal, from the state in which nothing is open and with nothing carried
 abbrev pub IsLegal : Settings → List HistoryRow → Type 0
 IsLegal settings rows = IsLegalFrom settings empty_state (λ thread. nothing_carried) rows

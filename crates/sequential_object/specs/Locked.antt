@@ -38,6 +38,7 @@ LocksDoor s keeps None = ⊥
 LocksDoor s true (Some object) = object ≡ s.next_object
 LocksDoor s false (Some object) = HasDoor s object
 
+-- each call that goes outside takes such a lock
 abbrev pub OutsideLocks : Type 0
 OutsideLocks =
     (s : State) (c : Call) (carried : Carried) → is_some (asks s c carried) ≡ true

@@ -32,6 +32,7 @@ use Rattle.sequential_object.specs.declared.decision.Change.TheVariants as chang
 use Rattle.sequential_object.specs.declared.decision.Decision.TheVariants as decision
 use Rattle.sequential_object.specs.declared.decision.Deed.TheVariants as deed
 
+-- the description of this key has this offset from now on
 abbrev pub with_offset : State → ℕ → Description → ℕ → State
 with_offset s key d offset =
     record s { descriptions = map.insert s.descriptions key (record d { offset = offset }) }
@@ -57,9 +58,11 @@ seen_of s descriptor (key, d) = record {
   last = posix.is_last s descriptor key;
 }
 
+-- the object that is made next, if there is room for one
 abbrev pub next_of : State → Option ℕ
 next_of s = if nat_le limit.OBJECTS (map.len s.objects) then None else Some s.next_object
 
+-- what a call may look at in this state
 unfoldable pub seen : State → View
 seen s = record {
   described = λ descriptor.
@@ -83,6 +86,7 @@ key_of (act.Write to before) = Some to.key
 key_of (act.Lseek at) = Some at.key
 key_of a = None
 
+-- the description of an act, if it reads or moves one
 abbrev pub description_of : State → Option ℕ → Option Description
 description_of s (Some key) = map.get s.descriptions key
 description_of s None = None
@@ -102,6 +106,7 @@ abbrev pub holding : State → ℕ → Option Content → State
 holding s object (Some content) = with_content s object content
 holding s object None = s
 
+-- the state after an act: its description is moved, and its object holds what the act left
 abbrev pub put : State → ℕ → Act → Acted → State
 put s object a done =
     holding (moved_to s done.offset (key_of a) (description_of s (key_of a))) object done.content
@@ -112,11 +117,13 @@ ended after (Replies (reply.Fail e)) = Err e
 ended after (Replies r) = Ok (Completes after r)
 ended after (Blocks moved) = Ok (effect.Blocks after moved)
 
+-- how an act ends at this object, in this state
 abbrev pub acted_at : State → ℕ → Act → Call → Acted
 acted_at s object a c =
     acted (posix.has_end s object) a c (content_of s object)
     (offset_in (description_of s (key_of a)))
 
+-- what comes of an act at this object, or why it fails
 abbrev pub acts : State → ℕ → Act → Call → Result Effect Errno
 acts s object a c =
     let done = acted_at s object a c in

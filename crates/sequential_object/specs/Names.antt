@@ -44,6 +44,7 @@ is_inside directory path =
     nat_lt (length directory) (length path)
     && pointwise (pointwise nat_eq) directory (take (length directory) path)
 
+-- whether something is inside this directory
 abbrev pub has_entries : PathMap → List (List ℕ) → Bool
 has_entries paths directory =
     list_any (λ (entry : List (List ℕ) × Node). is_inside directory entry.0) (map.entries paths)
@@ -58,6 +59,7 @@ file_at None e = Err ENOENT
 file_at (Some Directory) e = Err e
 file_at (Some (FileNode object)) e = Ok object
 
+-- the file that a path names; a directory is refused with this error
 unfoldable pub file_named : View → List ℕ → Errno → Result ℕ Errno
 file_named v path e = do
   node ← v.named path
@@ -102,6 +104,7 @@ renames v object (Some (FileNode other)) =
     Ok (if other == object then tells reply.Done else
     loses_name v other (change.Rename object (Some other)))
 
+-- `rename`
 unfoldable pub rename_decided : View → List ℕ → List ℕ → Result Decision Errno
 rename_decided v old_path new_path = do
   object ← file_named v old_path EINVAL

@@ -1,7 +1,8 @@
 -- Believed: a contract of the headline stands on it.
 -- The numbers of objects. An object has the lowest free one from its birth on, which is free again
 -- once the object is gone.
-use Rattle.std.specs.Prelude.{ℕ, zero, suc, ◌-◌, List, [], ◌∷◌, map, set, replicate, Option, Some, None, is_some, if◌then◌else◌}
+use Rattle.std.specs.Prelude.{ℕ, zero, suc, ◌-◌, List, [], ◌∷◌, map, set, replicate, Option, Some}
+use Rattle.std.specs.Prelude.{None, is_some, if◌then◌else◌}
 use Rattle.std.specs.FinMap as fin
 use Rattle.sequential_object.specs.Descriptors.{is_key}
 use Rattle.sequential_object.specs.Object.{State, empty_state}
@@ -25,6 +26,7 @@ number_of w object =
     if is_some (fin.get w.object.objects object) then number_in w.numbers object
     else first_free w.numbers
 
+-- the object that has a number, if it is still there
 abbrev pub if_there : State → Option ℕ → Option ℕ
 if_there s None = None
 if_there s (Some object) = if is_some (fin.get s.objects object) then Some object else None

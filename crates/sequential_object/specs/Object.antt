@@ -36,6 +36,7 @@ pub data Node : Type 0 where
   FileNode : (object : ℕ) → Node
   Directory : Node
 
+-- the order of paths, by their components
 abbrev pub path_cmp : List (List ℕ) → List (List ℕ) → Ordering
 path_cmp = slice_cmp (slice_cmp nat_cmp)
 
@@ -66,6 +67,7 @@ empty_state =
 abbrev pub content_of : State → ℕ → Content
 content_of s object = unwrap_or (map.get s.objects object) (File [])
 
+-- whether an object is a door
 abbrev pub is_door : Content → Bool
 is_door (DoorTo door) = true
 is_door c = false

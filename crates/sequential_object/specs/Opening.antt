@@ -22,6 +22,7 @@ use Rattle.sequential_object.specs.declared.decision.Change.TheVariants as chang
 use Rattle.sequential_object.specs.declared.decision.Decision.TheVariants as decision
 use Rattle.sequential_object.specs.declared.decision.Deed.TheVariants as deed
 
+-- a descriptor to be opened: its number, its object, and how it may be used
 abbrev pub new_descriptor : ℕ → ℕ → Access → (append nonblock : Bool) → NewDescriptor
 new_descriptor n object access append nonblock = record {
   number = n;
@@ -31,6 +32,7 @@ new_descriptor n object access append nonblock = record {
   nonblock = nonblock;
 }
 
+-- a descriptor to be opened with these flags of `open`
 abbrev pub opened_with : ℕ → ℕ → Access → OpenFlags → NewDescriptor
 opened_with n object access flags = new_descriptor n object access flags.append flags.nonblock
 
@@ -53,6 +55,7 @@ open_new v access flags = do
   Ok (decision.Locks object
       (deed.Acts (act.Create n) (change.MakeFile (opened_with n object access flags))))
 
+-- `open` of a path that names this, or nothing
 abbrev pub open_node : View → Option Node → Access → OpenFlags → Result Decision Errno
 open_node v None access flags = open_new v access flags
 open_node v (Some node) access flags = do

@@ -1,7 +1,8 @@
 -- Believed: a contract of the headline stands on it.
 -- Paths, and what they name. POSIX.1-2017, Base Definitions, 4.13 (pathname resolution), without
 -- `.`, `..`, symbolic links and trailing slashes.
-use Rattle.std.specs.Prelude.{ℕ, List, [], ◌∷◌, ◌++◌, length, Bool, ◌&&◌, ◌||◌, ◌==◌, nat_lt, nat_eq, Result, Ok, Err, Option, Some, None, codes, slice_index}
+use Rattle.std.specs.Prelude.{ℕ, List, [], ◌∷◌, ◌++◌, length, Bool, ◌&&◌, ◌||◌, ◌==◌, nat_lt}
+use Rattle.std.specs.Prelude.{nat_eq, Result, Ok, Err, Option, Some, None, codes, slice_index}
 use Rattle.std.specs.Prelude.{◌-◌}
 use Rattle.std.specs.List.{list_any}
 use Rattle.std.specs.Cmp.Lexicographic.{pointwise}
@@ -11,7 +12,8 @@ use Rattle.sequential_object.specs.Object.{Node, FileNode, Directory, path_cmp}
 use Rattle.sequential_object.specs.Refusals.{◌>>=◌, refuse_if}
 use Rattle.posix_terms.specs.Text.{pieces_of}
 use Rattle.posix_terms.specs.declared.errno.Errno.{Errno}
-use Rattle.posix_terms.specs.declared.errno.Errno.TheVariants.{EINVAL, ENOENT, ENOTDIR, ENAMETOOLONG}
+use Rattle.posix_terms.specs.declared.errno.Errno.TheVariants.{EINVAL, ENOENT, ENOTDIR}
+use Rattle.posix_terms.specs.declared.errno.Errno.TheVariants.{ENAMETOOLONG}
 use Rattle.posix_terms.specs.declared.limits.TheConstants.Limits as limit
 
 -- the byte `/`
@@ -22,10 +24,11 @@ slash = 47
 abbrev pub components_of : List ℕ → List (List ℕ)
 components_of path = pieces_of slash path
 
+-- whether a component is `.` or `..`
 abbrev pub is_dots : List ℕ → Bool
 is_dots name = pointwise nat_eq name (codes ".") || pointwise nat_eq name (codes "..")
 
--- there is a component, and the path goes on behind the last one
+-- there is a component, and the path goes on after the last one
 abbrev pub has_trailing_slash : List ℕ → Bool
 has_trailing_slash path =
     nat_lt 0 (length (components_of path)) && (slice_index path (length path - 1) == slash)

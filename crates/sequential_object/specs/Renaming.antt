@@ -23,30 +23,36 @@ use Rattle.sequential_object.specs.declared.decision.Deed.TheVariants as deed
 
 -- ## Other names
 
+-- the other name of each key of a description, and of each object
 pub record Names : Type 0 where
   pub key : ℕ → ℕ
   pub object : ℕ → ℕ
 
--- the birth of a description is no name
+-- the birth of a description is not a name
 abbrev pub seen_by : Names → Seen → Seen
 seen_by r at = record at { key = r.key at.key; object = r.object at.object }
 
+-- what a path names, under other names
 abbrev pub node_by : Names → Node → Node
 node_by r (FileNode object) = FileNode (r.object object)
 node_by r Directory = Directory
 
+-- an act, under other names
 abbrev pub act_by : Names → Act → Act
 act_by r (act.Read from count) = act.Read (seen_by r from) count
 act_by r (act.Write to before) = act.Write (seen_by r to) before
 act_by r (act.Lseek at) = act.Lseek (seen_by r at)
 act_by r a = a
 
+-- a descriptor to be opened, under other names
 abbrev pub new_by : Names → NewDescriptor → NewDescriptor
 new_by r new = record new { object = r.object new.object }
 
+-- the two descriptors of a new object, under other names
 abbrev pub ends_by : Names → NewEnds → NewEnds
 ends_by r new = record new { object = r.object new.object }
 
+-- a change, under other names
 abbrev pub change_by : Names → Change → Change
 change_by r change.Nothing = change.Nothing
 change_by r (change.Share n key) = change.Share n (r.key key)
@@ -64,6 +70,7 @@ change_by r (change.MakeFile new) = change.MakeFile (new_by r new)
 change_by r (change.MakePipe new) = change.MakePipe (ends_by r new)
 change_by r (change.MakeSockets new) = change.MakeSockets (ends_by r new)
 
+-- what a call does with the object that it locks, under other names
 abbrev pub deed_by : Names → Deed → Deed
 deed_by r (deed.Acts a x) = deed.Acts (act_by r a) (change_by r x)
 deed_by r (deed.Asks blocks) = deed.Asks blocks
@@ -71,10 +78,12 @@ deed_by r (deed.Closes n key) = deed.Closes n (r.key key)
 deed_by r (deed.Opens blocks listener new) =
     deed.Opens blocks (option_map r.object listener) (new_by r new)
 
+-- what is decided of a call, under other names
 abbrev pub decision_by : Names → Decision → Decision
 decision_by r (decision.Replies reply x) = decision.Replies reply (change_by r x)
 decision_by r (decision.Locks object does) = decision.Locks (r.object object) (deed_by r does)
 
+-- a success is renamed, and an error stays as it is
 abbrev pub ok_by : {A : Type 0} → (A → A) → Result A Errno → Result A Errno
 ok_by f (Ok x) = Ok (f x)
 ok_by f (Err e) = Err e
@@ -96,6 +105,7 @@ pub record Alike (r : Names) (v u : View) : Type 0 where
   pub apart : (object other : ℕ) → IsNamed v object → IsNamed v other
       → (r.object object == r.object other) ≡ (object == other)
 
+-- of two such views the same is decided of a call, but for the names
 abbrev pub DecidesAlike : Type 0
 DecidesAlike =
     (r : Names) (v u : View) (c : Call) (moved : Moved) → Alike r v u

@@ -134,6 +134,7 @@ pub record IsFile (v : View) (object : ℕ) (at : Seen) : Type 0 where
   pub object_is : at.object ≡ object
   pub only : at.«end» ≡ part.Only
 
+-- to a file, by some description
 pub record IsFileOfSome (v : View) (object : ℕ) : Type 0 where
   pub at : Seen
   pub file : IsFile v object at
@@ -207,6 +208,7 @@ abbrev pub TakesAlong : View → Call → Option ℕ → Type 0
 TakesAlong v (call.TcpAccept descriptor) listener = IsListener v descriptor listener
 TakesAlong v c listener = listener ≡ None
 
+-- a call can open a door: a number and an object are free, and its listener was found
 pub record IsOpening (v : View) (c : Call) (listener : Option ℕ) (new : NewDescriptor)
     : Type 0 where
   pub takes : TakesAlong v c listener
@@ -236,6 +238,7 @@ CanDo v c object (deed.Closes n key) =
 CanDo v c object (deed.Opens blocks listener new) =
     IsOpening v c listener new × (object ≡ new.object) × AsksLittle c
 
+-- whether a reply is a failure
 abbrev pub is_failure : Reply → Bool
 is_failure (reply.Fail e) = true
 is_failure r = false
@@ -270,6 +273,7 @@ pub record Shows (s : State) : Type 0 where
       → (let v = seen s in v.named path ≡ Ok (Some (FileNode object)))
       → map.get s.paths (components_of path) ≡ Some (FileNode object)
 
+-- what a call sees is in the state, and what is decided of it was looked up so
 pub record DecidedSo : Type 0 where
   pub shows : (s : State) → Shows s
   pub so : (v : View) (c : Call) (moved : Moved) → IsNumbered v

@@ -21,6 +21,7 @@ use Rattle.sequential_object.specs.declared.decision.Act.TheVariants as act
 use Rattle.sequential_object.specs.declared.decision.Change.TheVariants as change
 use Rattle.sequential_object.specs.declared.decision.Decision.TheVariants as decision
 
+-- what a descriptor may be used for, as the number that F_GETFL gives
 abbrev pub access_number : Access → ℕ
 access_number ReadOnly = 0
 access_number WriteOnly = 1

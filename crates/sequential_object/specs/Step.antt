@@ -37,6 +37,7 @@ abbrev pub query_of : Call → Result Effect Errno → Option Query
 query_of c (Ok (Asks a)) = Some (record { kind = a.kind; asked = a.asked; call = c })
 query_of c effect = None
 
+-- what a call that carries this asks of the outside, if it goes there
 abbrev pub asks : State → Call → Carried → Option Query
 asks s c carried = query_of c (effect_of s c carried)
 
@@ -66,6 +67,7 @@ abbrev pub waited : Settings → State → Moved → Carried → Stepped
 waited settings after moved carried =
     held_up (nat_lt (carried.turns + 1) settings.patience) after moved carried
 
+-- whether an error is EAGAIN
 abbrev pub is_again : Errno → Bool
 is_again EAGAIN = true
 is_again e = false
@@ -103,6 +105,7 @@ concluded settings s outcome carried (Ok (Blocks after moved)) = waited settings
 concluded settings s outcome carried (Ok (Asks a)) = outside settings s a outcome carried
 concluded settings s outcome carried (Err e) = failed s e
 
+-- a turn of a call that carries this, by the outcome of what it asks outside
 abbrev pub step : Settings → State → Call → Option Outcome → Carried → Stepped
 step settings s c outcome carried = concluded settings s outcome carried (effect_of s c carried)
 

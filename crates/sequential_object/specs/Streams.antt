@@ -32,7 +32,7 @@ pub data Writing : Type 0 where
   Breaks : Writing
   NoRoom : Writing
 
--- the bytes go behind those that wait, all of them or none; no more than so many wait
+-- the bytes go after those that wait, all of them or none; no more than so many wait
 abbrev pub stream_write : ℕ → List ℕ → List ℕ → Bool → Writing
 stream_write most waiting bytes readers =
     if not readers then Breaks else
@@ -51,12 +51,13 @@ stream_put most waiting bytes whole readers =
     if whole then stream_write most waiting bytes readers else
     stream_part most waiting bytes readers
 
--- the bytes that go behind those that wait, where such a write is done
+-- the bytes that go after those that wait, where such a write is done
 abbrev pub bytes_put : ℕ → List ℕ → List ℕ → (whole : Bool) → List ℕ
 bytes_put most waiting bytes whole = if whole then bytes else take (most - length waiting) bytes
 
 -- ## A pipe
 
+-- a write to a pipe in which these bytes wait, whole or in parts
 abbrev pub pipe_write : List ℕ → List ℕ → (whole readers : Bool) → Writing
 pipe_write waiting bytes whole readers = stream_put limit.PIPE_BYTES waiting bytes whole readers
 
@@ -68,20 +69,25 @@ pub record Half : Type 0 where
   pub reading_shut : Bool
   pub writing_shut : Bool
 
+-- the two sockets of a pair, by their sides
 pub record PairState : Type 0 where
   pub side0 : Half
   pub side1 : Half
 
+-- a new socket: no bytes wait for it, and nothing of it is shut
 abbrev pub new_half : Half
 new_half = record { waiting = []; reading_shut = false; writing_shut = false }
 
+-- a new pair of sockets
 abbrev pub new_pair : PairState
 new_pair = record { side0 = new_half; side1 = new_half }
 
+-- the socket at a side
 abbrev pub half_at : PairState → Side → Half
 half_at p Side0 = p.side0
 half_at p Side1 = p.side1
 
+-- the pair with this socket at a side
 abbrev pub with_half : PairState → Side → Half → PairState
 with_half p Side0 half = record p { side0 = half }
 with_half p Side1 half = record p { side1 = half }
@@ -110,5 +116,6 @@ half_shut half how.Read = record half { waiting = []; reading_shut = true }
 half_shut half how.Write = record half { writing_shut = true }
 half_shut half how.Both = record { waiting = []; reading_shut = true; writing_shut = true }
 
+-- the pair after a `shutdown` of the socket at a side
 abbrev pub shut : PairState → Side → ShutdownHow → PairState
 shut p side how = with_half p side (half_shut (half_at p side) how)

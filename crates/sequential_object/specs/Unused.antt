@@ -1,8 +1,10 @@
 -- Internal: no contract of the headline or of a command stands on it.
 -- The maps hold nothing unused, and what is referred to is there.
-use Rattle.std.specs.Prelude.{◌≡◌, ◌↔◌, ℕ, ◌<◌, List, Bool, true, false, ◌||◌, ◌&&◌, Option, Some, is_some}
+use Rattle.std.specs.Prelude.{◌≡◌, ◌↔◌, ℕ, ◌<◌, List, Bool, true, false, ◌||◌, ◌&&◌, Option, Some}
+use Rattle.std.specs.Prelude.{is_some}
 use Rattle.std.specs.FinMap as map
-use Rattle.sequential_object.specs.Descriptors.{has_descriptor, has_description, has_end, has_path, is_of_end}
+use Rattle.sequential_object.specs.Descriptors.{has_descriptor, has_description, has_end, has_path}
+use Rattle.sequential_object.specs.Descriptors.{is_of_end}
 use Rattle.sequential_object.specs.Object.{State, Description, Content, File, FileNode, empty_state}
 use Rattle.sequential_object.specs.Step.{Carried, step}
 use Rattle.posix_terms.specs.Calls.{Call}
@@ -16,6 +18,7 @@ abbrev pub is_a_file : Option Content → Bool
 is_a_file (Some (File bytes)) = true
 is_a_file other = false
 
+-- a state in which nothing is unused, and what is referred to is there
 pub record HoldsNothingUnused (s : State) : Type 0 where
   -- a descriptor refers to each description
   pub described : (key : ℕ) (d : Description) → map.get s.descriptions key ≡ Some d

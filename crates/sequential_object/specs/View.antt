@@ -6,6 +6,7 @@ use Rattle.posix_terms.specs.declared.errno.Errno.{Errno}
 use Rattle.sequential_object.specs.Object.{Node}
 use Rattle.sequential_object.specs.declared.decision.Seen.{Seen}
 
+-- what a call may look at
 pub record View : Type 0 where
   -- what a descriptor refers to, or EBADF
   pub described : ℤ → Result Seen Errno

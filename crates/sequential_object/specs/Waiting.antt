@@ -7,7 +7,8 @@ use Rattle.std.specs.FinMap as map
 use Rattle.posix_terms.specs.declared.object.End.{End}
 use Rattle.posix_terms.specs.declared.object.End.TheVariants as part
 use Rattle.posix_terms.specs.declared.object.Side.{Side}
-use Rattle.sequential_object.specs.Object.{State, Content, Description, File, Pipe, Pair, DoorTo, content_of, with_content}
+use Rattle.sequential_object.specs.Object.{State, Content, Description, File, Pipe, Pair, DoorTo}
+use Rattle.sequential_object.specs.Object.{content_of, with_content}
 use Rattle.sequential_object.specs.Step.{Carried, Moved, step}
 use Rattle.posix_terms.specs.Calls.{Call}
 use Rattle.posix_terms.specs.declared.call.Call.TheVariants as call
@@ -53,6 +54,7 @@ WaitsInParts s (call.Write descriptor bytes) before after moved =
     ⊎ ((limit.PIPE_BUF < length bytes) × AddsToPipe s descriptor bytes before after moved)
 WaitsInParts s c before after moved = after ≡ s
 
+-- each call that has to wait leaves the state in this way
 abbrev pub AgainMovesInParts : Type 0
 AgainMovesInParts =
     (settings : Settings) (s : State) (c : Call) (outcome : Option Outcome) (carried : Carried)

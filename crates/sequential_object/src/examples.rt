@@ -1,5 +1,17 @@
-ghost use Rattle.sequential_object.specs.DoorExamples.{TurnsAnswer, Visits, appended_host_file, impatient_door, missing_host_file, no_bytes_of_a_door, over_loopback, patient_door, shared_door, short_host_write, would_block};
-ghost use Rattle.sequential_object.specs.Examples.{Leaves, Replies, appended_at_the_end, gap_reads_zero, dup2_from_nothing, shared_offset, unlinked_but_open, directory_refusals, renamed_files, positioned_write_and_truncate, shared_flags, pipe_and_its_ends, half_closed_pair, AnswersAfter, closed_last, unlinked_last, replaced_last, renamed_last, linked_still, shared_still, closed_pipe, half_closed_pipe};
+ghost use Rattle.sequential_object.specs.DoorExamples.{TurnsAnswer, Visits, appended_host_file};
+ghost use Rattle.sequential_object.specs.DoorExamples.{impatient_door, missing_host_file};
+ghost use Rattle.sequential_object.specs.DoorExamples.{no_bytes_of_a_door, over_loopback};
+ghost use Rattle.sequential_object.specs.DoorExamples.{patient_door, shared_door, short_host_write};
+ghost use Rattle.sequential_object.specs.DoorExamples.{would_block};
+ghost use Rattle.sequential_object.specs.Examples.{Leaves, Replies, appended_at_the_end};
+ghost use Rattle.sequential_object.specs.Examples.{gap_reads_zero, dup2_from_nothing};
+ghost use Rattle.sequential_object.specs.Examples.{shared_offset, unlinked_but_open};
+ghost use Rattle.sequential_object.specs.Examples.{directory_refusals, renamed_files};
+ghost use Rattle.sequential_object.specs.Examples.{positioned_write_and_truncate, shared_flags};
+ghost use Rattle.sequential_object.specs.Examples.{pipe_and_its_ends, half_closed_pair};
+ghost use Rattle.sequential_object.specs.Examples.{AnswersAfter, closed_last, unlinked_last};
+ghost use Rattle.sequential_object.specs.Examples.{replaced_last, renamed_last, linked_still};
+ghost use Rattle.sequential_object.specs.Examples.{shared_still, closed_pipe, half_closed_pipe};
 ghost use Rattle.posix_terms.specs.declared.errno.Errno.TheVariants.{EINTR};
 ghost use Rattle.posix_terms.specs.declared.reply.Answer.TheVariants.{Again, Reply};
 ghost use Rattle.posix_terms.specs.declared.reply.Reply.TheVariants.{Fail};
@@ -19,7 +31,8 @@ pub fn worked_examples()
     ensures flags { Replies shared_flags }
     ensures pipe { Replies pipe_and_its_ends }
     ensures pair { Replies half_closed_pair }
-    ensures patient { AnswersAfter 3 0 Again × AnswersAfter 3 1 Again × AnswersAfter 3 2 (Reply (Fail EINTR)) }
+    ensures patient { AnswersAfter 3 0 Again × AnswersAfter 3 1 Again
+        × AnswersAfter 3 2 (Reply (Fail EINTR)) }
     ensures closing { Leaves 0 closed_last }
     ensures unlinking { Leaves 0 unlinked_last }
     ensures replacing { Leaves 1 replaced_last }
