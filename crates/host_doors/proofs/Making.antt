@@ -9,8 +9,10 @@ use Rattle.host_doors.specs.Asked.{Opens}
 use Rattle.host_doors.specs.Files.{Cutting, IsNotMade, IsNotOpened, IsRefused, IsWhy, Opening}
 use Rattle.host_doors.specs.Options.{options_of}
 
-pub not_made : {F : Type 0} (opened : Opening F) (cut : Cutting F) (call : Call) (path : List ℕ) (access : Access) (flags : OpenFlags)
-    (how : HostOptions) (error : Error) → Opens call path access flags → how ≡ options_of access flags → how.makes ≡ true
+pub not_made : {F : Type 0} (opened : Opening F) (cut : Cutting F) (call : Call) (path : List ℕ) (access : Access)
+    (flags : OpenFlags)
+    (how : HostOptions) (error : Error) → Opens call path access flags → how ≡ options_of access flags
+    → how.makes ≡ true
     → IsNotMade opened how.options path error → IsNotOpened opened cut call error
 not_made opened cut call path access flags how error asked is makes failed =
     let refused : IsRefused opened how.makes how.options path error =

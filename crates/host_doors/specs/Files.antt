@@ -26,7 +26,8 @@ abbrev pub for_making : OpenOptions
 for_making = with_create (with_write new_options true) true
 
 -- the call opened this file, by its options and its path, and it was cut where these say so
-pub record IsOpened {F : Type 0} (opened : Opening F) (cut : Cutting F) (call : Call) (file : F) : Type 0 where
+pub record IsOpened {F : Type 0} (opened : Opening F) (cut : Cutting F) (call : Call)
+    (file : F) : Type 0 where
   pub path : List ℕ
   pub access : Access
   pub flags : OpenFlags
@@ -34,7 +35,8 @@ pub record IsOpened {F : Type 0} (opened : Opening F) (cut : Cutting F) (call : 
   pub came : opened (options_of access flags).options path (Ok file)
   pub emptied : (options_of access flags).cuts ≡ true → (done : Unit) × cut file (Ok done)
 
--- why a file that is made where it is missing was not opened: it was refused, and not as missing; or it was made and then refused; or it
+-- why a file that is made where it is missing was not opened: it was refused,
+-- and not as missing; or it was made and then refused; or it
 -- was not made
 abbrev pub IsNotMade : {F : Type 0} → Opening F → OpenOptions → List ℕ → Error → Type 0
 IsNotMade {F} opened options path error =
@@ -48,7 +50,8 @@ IsRefused opened true options path error = IsNotMade opened options path error
 IsRefused opened false options path error = opened options path (Err error)
 
 -- a file was opened, and not cut as is asked
-pub record IsUncut {F : Type 0} (opened : Opening F) (cut : Cutting F) (how : HostOptions) (path : List ℕ) (error : Error) : Type 0 where
+pub record IsUncut {F : Type 0} (opened : Opening F) (cut : Cutting F) (how : HostOptions)
+    (path : List ℕ) (error : Error) : Type 0 where
   pub file : F
   pub asked : how.cuts ≡ true
   pub came : opened how.options path (Ok file)
@@ -56,10 +59,12 @@ pub record IsUncut {F : Type 0} (opened : Opening F) (cut : Cutting F) (how : Ho
 
 -- why a file that is opened so is not there
 abbrev pub IsWhy : {F : Type 0} → Opening F → Cutting F → HostOptions → List ℕ → Error → Type 0
-IsWhy opened cut how path error = IsRefused opened how.makes how.options path error ⊎ IsUncut opened cut how path error
+IsWhy opened cut how path error = IsRefused opened how.makes how.options path error
+    ⊎ IsUncut opened cut how path error
 
 -- why a call that opens a text has no file
-pub record IsUnopened {F : Type 0} (opened : Opening F) (cut : Cutting F) (call : Call) (error : Error) : Type 0 where
+pub record IsUnopened {F : Type 0} (opened : Opening F) (cut : Cutting F) (call : Call)
+    (error : Error) : Type 0 where
   pub path : List ℕ
   pub access : Access
   pub flags : OpenFlags
@@ -69,4 +74,5 @@ pub record IsUnopened {F : Type 0} (opened : Opening F) (cut : Cutting F) (call 
 -- why a call has no file: it opens no text, or that was refused
 abbrev pub IsNotOpened : {F : Type 0} → Opening F → Cutting F → Call → Error → Type 0
 IsNotOpened opened cut call error =
-    ((OpensText call → ⊥) × (error_kind error ≡ failure.InvalidInput)) ⊎ IsUnopened opened cut call error
+    ((OpensText call → ⊥) × (error_kind error ≡ failure.InvalidInput))
+    ⊎ IsUnopened opened cut call error

@@ -10,8 +10,10 @@ use Rattle.host_doors.specs.Counting.{failures_after}
 abbrev pub CanCount : ℕ → ℕ → Type 0
 CanCount given failures = (given < 2 ^ 64 - 1) × (failures < 2 ^ 64 - 1)
 
--- one outcome is given: it answers the request, the outside may give it there, it is counted, and so is a failure
-pub record GivesOne {O : Type 0} (given failures : O → ℕ) (gives : O → ℕ → Request → Outcome → O → Type 0)
+-- one outcome is given: it answers the request, the outside may
+-- give it there, it is counted, and so is a failure
+pub record GivesOne {O : Type 0} (given failures : O → ℕ) (gives : O → ℕ → Request → Outcome → O
+    → Type 0)
     (old : O) (number : ℕ) (request : Request) (o : Outcome) (new : O) : Type 0 where
   pub fits : fits request.kind request.asked o ≡ true
   pub allowed : gives old number request o new

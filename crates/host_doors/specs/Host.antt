@@ -13,7 +13,8 @@ use Rattle.host_doors.specs.declared.stop.DoorStop.TheVariants as stop
 use Rattle.host_doors.specs.declared.counts.Counts.{Counts}
 use Rattle.host_doors.specs.Counting.{counted}
 
--- the host may give any outcome that answers the request, which is counted; without memory it gives none
+-- the host may give any outcome that answers the request,
+-- which is counted; without memory it gives none
 abbrev pub GivesAny : Request → Counts → Counts → Result Outcome DoorStop → Type 0
 GivesAny request old new (Ok o) = (fits request.kind request.asked o ≡ true) × (new ≡ counted old o)
 GivesAny request old new (Err s) = (s ≡ stop.Memory) × (new ≡ old)

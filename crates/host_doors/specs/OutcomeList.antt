@@ -1,6 +1,7 @@
 -- Believed: a contract of the headline stands on it.
 -- Doors to an outside that is a list of outcomes.
-use Rattle.std.specs.Prelude.{◌≡◌, ℕ, ◌≤◌, Bool, true, false, List, length, slice_get, Some, Result, Ok, Err, IfOk}
+use Rattle.std.specs.Prelude.{◌≡◌, ℕ, ◌≤◌, Bool, true, false, List, length, slice_get, Some, Result}
+use Rattle.std.specs.Prelude.{Ok, Err, IfOk}
 use Rattle.posix_terms.specs.Outcomes.{answers, fits}
 use Rattle.posix_terms.specs.declared.outcome.Given.{Given}
 use Rattle.posix_terms.specs.declared.outcome.Outcome.{Outcome}
@@ -19,18 +20,22 @@ pub record OutcomeList (G : Type 0) : Type 0 where
   pub gate : G
 
 -- the list has this outcome at this number, and it answers the request
-pub record IsListed (list : List Given) (number : ℕ) (request : Request) (o : Outcome) : Type 0 where
-  pub entry : Given
-  pub at : slice_get list number ≡ Some entry
-  pub answer : answers request entry ≡ true
-  pub outcome : entry.outcome ≡ o
+pub record IsListed (list : List Given) (number : ℕ) (request : Request) (o : Outcome) : Type 0
+  where
+    pub entry : Given
+    pub at : slice_get list number ≡ Some entry
+    pub answer : answers request entry ≡ true
+    pub outcome : entry.outcome ≡ o
 
--- why the list gives no outcome of this number: it ends before, it has another request's there, or there
+-- why the list gives no outcome of this number: it ends
+-- before, it has another request's there, or there
 -- was no memory for a copy
 abbrev pub Stops : List Given → ℕ → Request → DoorStop → Type 0
 Stops list number request stop.EndOfLog = length list ≤ number
-Stops list number request stop.Diverged = (entry : Given) × (slice_get list number ≡ Some entry) × (answers request entry ≡ false)
-Stops list number request stop.Memory = (entry : Given) × (slice_get list number ≡ Some entry) × (answers request entry ≡ true)
+Stops list number request stop.Diverged = (entry : Given) × (slice_get list number ≡ Some entry)
+    × (answers request entry ≡ false)
+Stops list number request stop.Memory = (entry : Given) × (slice_get list number ≡ Some entry)
+    × (answers request entry ≡ true)
 
 -- where the gate let the call in, the outcome is the list's; elsewhere the call timed out
 abbrev pub Chosen : Bool → List Given → ℕ → Request → Result Outcome DoorStop → Type 0
@@ -44,7 +49,8 @@ Counted old new (Ok o) = (new.list ≡ old.list) × (new.counts ≡ counted old.
 Counted old new (Err s) = new ≡ old
 
 -- what a call of a thread gives, by the answer of a gate that may answer so
-pub record Gives {G : Type 0} (may_answer : G → ℕ → ℕ → Bool → G → Type 0) (thread number : ℕ) (request : Request) (old new : OutcomeList G) (result : Result Outcome DoorStop) : Type 0 where
+pub record Gives {G : Type 0} (may_answer : G → ℕ → ℕ → Bool → G → Type 0) (thread number : ℕ)
+    (request : Request) (old new : OutcomeList G) (result : Result Outcome DoorStop) : Type 0 where
   pub entered : Bool
   pub gate : may_answer old.gate thread number entered new.gate
   pub chosen : Chosen entered old.list number request result

@@ -1,7 +1,9 @@
-ghost use Rattle.std.specs.Prelude.{◌≡◌, ◌≤◌, ◌↔◌, Some, IfErr, IfOk, IsOk, IsSome, option_map, take};
+ghost use Rattle.std.specs.Prelude.{◌≡◌, ◌≤◌, ◌↔◌, Some, IfErr, IfOk, IsOk, IsSome, option_map};
+ghost use Rattle.std.specs.Prelude.{take};
 ghost use Rattle.std.specs.IoError.{error_kind};
 ghost use Rattle.std.specs.declared.io.ErrorKind.TheVariants as kind;
-ghost use Rattle.host_doors.specs.Asked.{CanSeek, IsShutdown, Opens, OpensText, Seeks, Shuts, bytes_of};
+ghost use Rattle.host_doors.specs.Asked.{CanSeek, IsShutdown, Opens, OpensText, Seeks, Shuts};
+ghost use Rattle.host_doors.specs.Asked.{bytes_of};
 
 use posix_terms::{Access, Call, Limits, OpenFlags, ShutdownHow, Whence};
 use std::io;
@@ -42,7 +44,8 @@ pub(crate) fn file_to_open(call: &Call) -> io::Result<HostFile<'_>>
 
 /// The bytes that the call writes, but no more than so many.
 pub(crate) fn bytes_to_write(call: &Call, most: u64) -> io::Result<&[u8]>
-    ensures bytes { IfOk result (λ front. Some front.now ≡ option_map (take most) (bytes_of call.now)) }
+    ensures bytes { IfOk result (λ front. Some front.now
+        ≡ option_map (take most) (bytes_of call.now)) }
     ensures ok { IsOk result ↔ IsSome (bytes_of call.now) }
     ensures error { IfErr result (λ error. error_kind error ≡ kind.InvalidInput) }
 {

@@ -1,4 +1,5 @@
-ghost use Rattle.std.specs.Prelude.{◌≡◌, ◌≤◌, ℕ, List, length, take, Result, Ok, Err, IfOk, IfSome, None, OnErr, ⊤};
+ghost use Rattle.std.specs.Prelude.{◌≡◌, ◌≤◌, ℕ, List, length, take, Result, Ok, Err, IfOk, IfSome};
+ghost use Rattle.std.specs.Prelude.{None, OnErr, ⊤};
 ghost use Rattle.std.specs.Io.{ReadsAtMost, WritesAtMost};
 ghost use Rattle.std.specs.declared.io.Error.{Error};
 ghost use Rattle.host_doors.specs.Asked.{bytes_of};
@@ -13,7 +14,7 @@ use std::io::{Read, Write};
 use std::net::TcpStream;
 
 /// What bytes are read from and written to: a host file or a stream. What one call of the host gave or took
-/// is a relation, so that contracts say that there was just one.
+/// is a relation, so that contracts say that there was exactly one.
 pub(crate) trait Channel {
     /// What may come of one read into so much room: the count, what stands in the room, and the channel after.
     ghost gave: { Self → ℕ → Result ℕ Error → List ℕ → Self → Type 0 };
@@ -65,7 +66,8 @@ pub(crate) fn read_asked<C: Channel>(
     alloc: Global,
     asked: u64,
 ) -> Result<io::Result<Bytes>, AllocError>
-    ensures read { IfOk result (λ found. HasRead (λ count room. C.gave channel.old asked count room channel.new) found) }
+    ensures read { IfOk result (λ found.
+        HasRead (λ count room. C.gave channel.old asked count room channel.new) found) }
     ensures few { IfOk result (λ found. IfOk found (λ bytes. length bytes ≤ asked)) }
     ensures same { OnErr result (channel.new ≡ channel.old) }
 {
@@ -79,11 +81,13 @@ pub(crate) fn read_asked<C: Channel>(
     }
 }
 
-/// Writes the call's bytes once, as many as were asked for. What the host says is told as it is: how many it
+/// Writes the call's bytes once, as many as were asked for. What the host says is returned as it is: how many it
 /// took, or why it took none. `InvalidInput` where the call writes none.
 pub(crate) fn write_asked<C: Channel>(channel: &mut C, request: &Request) -> io::Result<u64>
-    ensures wrote { IfSome (bytes_of request.now.call) (λ bytes. C.took channel.old (take request.now.asked bytes) result channel.new) }
-    ensures invalid { bytes_of request.now.call ≡ None → IsInvalid result × (channel.new ≡ channel.old) }
+    ensures wrote { IfSome (bytes_of request.now.call)
+        (λ bytes. C.took channel.old (take request.now.asked bytes) result channel.new) }
+    ensures invalid { bytes_of request.now.call ≡ None → IsInvalid result
+        × (channel.new ≡ channel.old) }
     ensures few { IfOk result (λ count. count ≤ request.now.asked) }
 {
     let bytes = bytes_to_write(&request.call, request.asked)?;

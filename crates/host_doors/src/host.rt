@@ -1,4 +1,5 @@
-ghost use Rattle.std.specs.Prelude.{◌≡◌, true, [], Ok, None, Some, IfErr, IfOk, IfSome, IsOk, OnErr};
+ghost use Rattle.std.specs.Prelude.{◌≡◌, true, [], Ok, None, Some, IfErr, IfOk, IfSome, IsOk};
+ghost use Rattle.std.specs.Prelude.{OnErr};
 ghost use Rattle.std.specs.IoError.{error_kind};
 ghost use Rattle.posix_terms.specs.Outcomes.{fits};
 ghost use Rattle.posix_terms.specs.declared.errno.Errno.TheVariants as errno;
@@ -33,12 +34,12 @@ use std::time::{Clock, Duration};
 /// A failure has the code of the error that the host names, where the host names it as a kind of its own:
 /// `ENOENT`, `EACCES`, `EEXIST`, `EAGAIN`, `EINTR`, `EPIPE`, `ECONNREFUSED`, `ECONNRESET`, `EADDRINUSE`,
 /// `ETIMEDOUT` or `EINVAL`. Every other failure is `EIO`: a full device, a directory, or a value that does
-/// not answer the request. A door of another sort is `EINVAL`, and so is a call that lacks what the request
+/// not answer the request. A door of another kind is `EINVAL`, and so is a call that lacks what the request
 /// needs: a path in UTF-8, bytes or an offset. An opening passes `O_EXCL` and `O_NONBLOCK` by. A `close` always
-/// succeeds, since what the host says to it is not told.
+/// succeeds, since what the host says to it is not returned.
 ///
 /// How long a read or a write of a stream and an accept wait for the peer is said where the outside is made. No
-/// contract tells it, and no other call has a bound: a `connect` waits where too many connections are under way, and
+/// contract states it, and no other call has a bound: a `connect` waits where too many connections are under way, and
 /// so does the opening of a named pipe.
 #[derive(Drop)]
 pub struct HostDoors<R> {
@@ -70,7 +71,7 @@ impl<R> HostDoors<R> {
     }
 
     /// As `new`, but a read or a write of a stream and an accept wait no longer than `wait`, and then fail with
-    /// `EAGAIN`. Where the call is not to wait, or `wait` is no time, they take what is there, or fail with
+    /// `EAGAIN`. Where the call is not to wait, or `wait` is zero, they take what is there, or fail with
     /// `EAGAIN` at once. A stream keeps the bound with which it was opened.
     pub fn waiting(rt: R, alloc: Global, wait: Duration) -> HostDoors<R>
         ensures { result ≡ record { given = 0; failures = 0 } }
@@ -112,7 +113,8 @@ impl<R> HostDoors<R> {
     fn succeed(&mut self, request: &Request, value: u64, bytes: Bytes) -> Outcome
         requires count { CanCount self.old.given self.old.failures }
         ensures fits { fits request.now.kind request.now.asked result ≡ true }
-        ensures value { fits request.now.kind request.now.asked (outcome.Ok value bytes) ≡ true → result ≡ outcome.Ok value bytes }
+        ensures value { fits request.now.kind request.now.asked (outcome.Ok value bytes) ≡ true
+            → result ≡ outcome.Ok value bytes }
         ensures counted { self.new ≡ counted self.old result }
     {
         let outcome = Outcome::Ok { value, bytes };
@@ -128,7 +130,8 @@ impl<R> HostDoors<R> {
     fn answer(&mut self, request: &Request, found: io::Result<u64>) -> Outcome
         requires count { CanCount self.old.given self.old.failures }
         ensures fits { fits request.now.kind request.now.asked result ≡ true }
-        ensures value { IfOk found (λ value. fits request.now.kind request.now.asked (outcome.Ok value []) ≡ true → result ≡ outcome.Ok value []) }
+        ensures value { IfOk found (λ value. fits request.now.kind request.now.asked
+            (outcome.Ok value []) ≡ true → result ≡ outcome.Ok value []) }
         ensures error { IfErr found (λ error. result ≡ outcome.Fail (error_of (error_kind error))) }
         ensures counted { self.new ≡ counted self.old result }
     {
@@ -165,7 +168,8 @@ impl<R> HostDoors<R> {
         requires count { CanCount self.old.given self.old.failures }
         ensures fits { fits request.now.kind request.now.asked result ≡ true }
         ensures counted { self.new ≡ counted self.old result }
-        ensures wrote { IfSome (bytes_of request.now.call) (λ bytes. TellsWrite C.took channel.old channel.new request.now bytes result) }
+        ensures wrote { IfSome (bytes_of request.now.call)
+            (λ bytes. TellsWrite C.took channel.old channel.new request.now bytes result) }
         ensures invalid { bytes_of request.now.call ≡ None → result ≡ outcome.Fail errno.EINVAL }
         ensures same { bytes_of request.now.call ≡ None → channel.new ≡ channel.old }
     {
@@ -182,8 +186,11 @@ impl<R> HostDoors<R> {
     ) -> Opened<HostDoor>
         requires count { CanCount self.old.given self.old.failures }
         ensures fits { fits request.now.kind request.now.asked result.outcome ≡ true }
-        ensures value { IfOk found (λ opened. fits request.now.kind request.now.asked (outcome.Ok opened.1 []) ≡ true → (result.outcome ≡ outcome.Ok opened.1 []) × (result.door ≡ Some opened.0)) }
-        ensures error { IfErr found (λ error. result.outcome ≡ outcome.Fail (error_of (error_kind error))) }
+        ensures value { IfOk found (λ opened. fits request.now.kind request.now.asked
+            (outcome.Ok opened.1 []) ≡ true → (result.outcome ≡ outcome.Ok opened.1 [])
+            × (result.door ≡ Some opened.0)) }
+        ensures error { IfErr found (λ error. result.outcome
+            ≡ outcome.Fail (error_of (error_kind error))) }
         ensures counted { self.new ≡ counted self.old result.outcome }
         ensures door { HasDoor result.outcome result.door }
     {

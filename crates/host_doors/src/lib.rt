@@ -1,13 +1,13 @@
 //! Doors to the outside, for whoever runs calls that go there: host files, listeners and streams as
-//! calls reach them, by one trait over the real host, over a list of outcomes or over a log.
+//! calls reach them. One trait has them over the real host, over a list of outcomes or over a log.
 //!
-//! An [`Outside`] is what one thread reaches: it has a function for each kind of request, which is
+//! An [`Outside`] is what one thread reaches. It has a function for each kind of request, which is
 //! handed the thread, the number of the outcome among those of the thread, and the door where there
 //! is one. By its contract an outcome fits what was asked, a success of an opening brings a door,
-//! and each outcome is counted. [`HostDoors`] are host files and TCP on the loopback address; what
-//! fails there is an outcome too, and so is `EAGAIN` of a call that found no bytes, no room or no
+//! and each outcome is counted. [`HostDoors`] are host files and TCP on the loopback address. What
+//! fails there is an outcome too. So is `EAGAIN` of a call that found no bytes, no room or no
 //! connection within the time that it may wait for its peer. [`ScriptDoors`] give a list of
-//! outcomes behind a [`Gate`], and [`LogDoors`] what a log has for a thread. Where there is no
+//! outcomes through a [`Gate`], and [`LogDoors`] what a log has for a thread. Where there is no
 //! outcome a [`DoorStop`] says why, and the outside is as it was. A read of the host takes memory
 //! for the bytes asked for, and without it nothing is read.
 //!
@@ -55,6 +55,6 @@ pub use host::HostDoors;
 pub use log_doors::LogDoors;
 pub use opened::Opened;
 pub use outside::Outside;
-pub use pair::{PairGate, OutcomePlace};
+pub use pair::{OutcomePlace, PairGate};
 pub use script::{ScriptDoor, ScriptDoors};
 pub use stop::DoorStop;

@@ -12,7 +12,7 @@ use posix_terms::{Outcome, Request};
 /// thread, the request and, where there is one, the door. It gives an outcome that answers the request, and
 /// with a success of an opening a door; or it says why there is none, and then the outside is as it was.
 ///
-/// A read, a write and an accept are also told what `EAGAIN` makes of them. Where it `waits`, the call is blocked
+/// A read, a write and an accept are also given what `EAGAIN` makes of them. Where it `waits`, the call is blocked
 /// and made again at a later turn; else `EAGAIN` is its reply.
 pub trait Outside {
     type Door: Send + Drop;
@@ -34,7 +34,8 @@ pub trait Outside {
         request: &Request,
     ) -> Result<Opened<Self::Door>, DoorStop>
         requires count { CanCount (given self.old) (failures self.old) }
-        ensures gives { IfOk result (λ o. GivesOne given failures gives self.old number request.now o.outcome self.new) }
+        ensures gives { IfOk result (λ o. GivesOne given failures gives self.old number request.now
+            o.outcome self.new) }
         ensures door { IfOk result (λ o. HasDoor o.outcome o.door) }
         ensures same { OnErr result (self.new ≡ self.old) };
 
@@ -49,7 +50,8 @@ pub trait Outside {
         waits: bool,
     ) -> Result<Outcome, DoorStop>
         requires count { CanCount (given self.old) (failures self.old) }
-        ensures gives { IfOk result (λ o. GivesOne given failures gives self.old number request.now o self.new) }
+        ensures gives { IfOk result (λ o. GivesOne given failures gives self.old number request.now
+            o self.new) }
         ensures same { OnErr result (self.new ≡ self.old) };
 
     /// Writes the call's bytes, or the first of them, to a host file or a stream (`write`). On a stream it may
@@ -63,7 +65,8 @@ pub trait Outside {
         waits: bool,
     ) -> Result<Outcome, DoorStop>
         requires count { CanCount (given self.old) (failures self.old) }
-        ensures gives { IfOk result (λ o. GivesOne given failures gives self.old number request.now o self.new) }
+        ensures gives { IfOk result (λ o. GivesOne given failures gives self.old number request.now
+            o self.new) }
         ensures same { OnErr result (self.new ≡ self.old) };
 
     /// Moves the offset of a host file (`lseek`). The value is the new offset.
@@ -75,7 +78,8 @@ pub trait Outside {
         door: &mut Self::Door,
     ) -> Result<Outcome, DoorStop>
         requires count { CanCount (given self.old) (failures self.old) }
-        ensures gives { IfOk result (λ o. GivesOne given failures gives self.old number request.now o self.new) }
+        ensures gives { IfOk result (λ o. GivesOne given failures gives self.old number request.now
+            o self.new) }
         ensures same { OnErr result (self.new ≡ self.old) };
 
     /// Makes a listener on the loopback address (`socket`, `bind`, `listen`). The value is its port.
@@ -86,7 +90,8 @@ pub trait Outside {
         request: &Request,
     ) -> Result<Opened<Self::Door>, DoorStop>
         requires count { CanCount (given self.old) (failures self.old) }
-        ensures gives { IfOk result (λ o. GivesOne given failures gives self.old number request.now o.outcome self.new) }
+        ensures gives { IfOk result (λ o. GivesOne given failures gives self.old number request.now
+            o.outcome self.new) }
         ensures door { IfOk result (λ o. HasDoor o.outcome o.door) }
         ensures same { OnErr result (self.new ≡ self.old) };
 
@@ -98,7 +103,8 @@ pub trait Outside {
         request: &Request,
     ) -> Result<Opened<Self::Door>, DoorStop>
         requires count { CanCount (given self.old) (failures self.old) }
-        ensures gives { IfOk result (λ o. GivesOne given failures gives self.old number request.now o.outcome self.new) }
+        ensures gives { IfOk result (λ o. GivesOne given failures gives self.old number request.now
+            o.outcome self.new) }
         ensures door { IfOk result (λ o. HasDoor o.outcome o.door) }
         ensures same { OnErr result (self.new ≡ self.old) };
 
@@ -113,7 +119,8 @@ pub trait Outside {
         waits: bool,
     ) -> Result<Opened<Self::Door>, DoorStop>
         requires count { CanCount (given self.old) (failures self.old) }
-        ensures gives { IfOk result (λ o. GivesOne given failures gives self.old number request.now o.outcome self.new) }
+        ensures gives { IfOk result (λ o. GivesOne given failures gives self.old number request.now
+            o.outcome self.new) }
         ensures door { IfOk result (λ o. HasDoor o.outcome o.door) }
         ensures same { OnErr result (self.new ≡ self.old) };
 
@@ -126,7 +133,8 @@ pub trait Outside {
         door: &mut Self::Door,
     ) -> Result<Outcome, DoorStop>
         requires count { CanCount (given self.old) (failures self.old) }
-        ensures gives { IfOk result (λ o. GivesOne given failures gives self.old number request.now o self.new) }
+        ensures gives { IfOk result (λ o. GivesOne given failures gives self.old number request.now
+            o self.new) }
         ensures same { OnErr result (self.new ≡ self.old) };
 
     /// Closes a door (`close`). The door is gone in any case, also where no outcome is given. The host's own
@@ -139,6 +147,7 @@ pub trait Outside {
         door: Self::Door,
     ) -> Result<Outcome, DoorStop>
         requires count { CanCount (given self.old) (failures self.old) }
-        ensures gives { IfOk result (λ o. GivesOne given failures gives self.old number request.now o self.new) }
+        ensures gives { IfOk result (λ o. GivesOne given failures gives self.old number request.now
+            o self.new) }
         ensures same { OnErr result (self.new ≡ self.old) };
 }

@@ -59,7 +59,7 @@ impl<C: Clock + Clone + Drop> PairGate<C> {
     ) -> Result<(PairGate<C>, PairGate<C>), AllocError>
         requires { first.thread ≢ second.thread }
         ensures first { IfOk result (λ gates. gates.0 ≡ record { place = first; missed = false }) }
-        ensures second { IfOk result (λ gates. gates.1 ≡ record { place = second; missed = false }) }
+        ensures second { IfOk result (λ both. both.1 ≡ record { place = second; missed = false }) }
     {
         let entered = Arc::new(alloc, AtomicU64::new(0))?;
         let there = Arc::try_clone(&entered)?;
@@ -72,7 +72,12 @@ impl<C: Clock + Clone + Drop> PairGate<C> {
 }
 
 impl<C> PairGate<C> {
-    fn holding(place: OutcomePlace, bit: u64, entered: Arc<AtomicU64, Global>, clock: C) -> PairGate<C>
+    fn holding(
+        place: OutcomePlace,
+        bit: u64,
+        entered: Arc<AtomicU64, Global>,
+        clock: C,
+    ) -> PairGate<C>
         ensures { result ≡ record { place = place; missed = false } }
     {
         PairGate {

@@ -1,5 +1,6 @@
 -- Lemmas on the tests of the threads below a number.
-use Rattle.std.proofs.Common.{◌≡◌, ℕ, zero, suc, ◌<◌, None, Some, Bool, true, false, ◌&&◌, inl, inr, refl, sym, ap, subst, arith}
+use Rattle.std.proofs.Common.{◌≡◌, ℕ, zero, suc, ◌<◌, None, Some, Bool, true, false, ◌&&◌, inl, inr, refl, sym, ap}
+use Rattle.std.proofs.Common.{subst, arith}
 use Rattle.std.proofs.lemmas.Bool.{cases_eq}
 use Rattle.logical_clocks.specs.TurnOrder.{all_below, first_below}
 
@@ -17,7 +18,8 @@ all_below_not (suc n) k p below not =
     ]
 
 -- the first number that passes
-pub first_below_found : (n k : ℕ) (p : ℕ → Bool) → k < n → first_below k p ≡ None → p k ≡ true → first_below n p ≡ Some k
+pub first_below_found : (n k : ℕ) (p : ℕ → Bool) → k < n → first_below k p ≡ None → p k ≡ true
+    → first_below n p ≡ Some k
 unfolding first_below
 first_below_found zero k p below none here = absurd (omega arith)
 first_below_found (suc n) k p below none here =

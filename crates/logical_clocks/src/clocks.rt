@@ -1,5 +1,6 @@
 ghost use Rattle.std.specs.Prelude.{◌≡◌, ◌+◌, ◌<◌, ◌≤◌, ◌↔◌, length, max, IsErr, IfOk, OnOk, OnErr};
-ghost use Rattle.logical_clocks.specs.ThreadClocks.{AreWithinLimit, first_clocks, clock_at, with_clock, with_end, live_clocks};
+ghost use Rattle.logical_clocks.specs.ThreadClocks.{AreWithinLimit, first_clocks, clock_at};
+ghost use Rattle.logical_clocks.specs.ThreadClocks.{with_clock, with_end, live_clocks};
 ghost use Rattle.logical_clocks.specs.TurnOrder.{has_turn, turn_holder};
 
 use posix_terms::Limits;
@@ -118,7 +119,8 @@ impl Clocks {
         self.threads[i].live = false;
     }
 
-    /// The clock of a thread; of one that has ended the clock that it had. With it comes what holds of all clocks (`all_within_limit`).
+    /// The clock of a thread; of one that has ended the clock that it had. With
+    /// it comes what holds of all clocks (`all_within_limit`).
     pub fn clock(&self, i: usize) -> u64
         requires { i < length self.now }
         ensures value { result ≡ clock_at self.now i }

@@ -3,7 +3,7 @@
 //! [`Clocks`] are made for 1 to `Limits::THREADS` threads, each at clock 1, and take all their
 //! memory then. Of the threads that have not ended, the one with the least clock has the turn, and
 //! of equal clocks the one with the least number: `turn_holder` names it, and `is_turn` tests one
-//! thread. `add` adds just so much to a clock; where the sum would pass `Limits::CLOCK` it fails
+//! thread. `add` adds exactly so much to a clock; where the sum would pass `Limits::CLOCK` it fails
 //! with [`ClockFull`], and nothing changes. `raise` moves a clock on to a time that it has not
 //! reached. `end` takes a thread out of the turns to come. What names a thread asks that there is
 //! one of this number.

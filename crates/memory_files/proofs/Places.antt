@@ -1,8 +1,11 @@
 -- What a page that changes, is taken or is given back leaves of the pool, and of what the places hold.
-use Rattle.std.proofs.Common.{◌≡◌, ◌≢◌, ℕ, ◌+◌, ◌/◌, ◌%◌, ◌<◌, ◌≤◌, List, [], ◌∷◌, ◌++◌, Bool, true, false, cond, Option, None, Some, length, map, get_or, set, take, drop, replicate, refl, ap, sym, ◌∙◌, subst, nat_eq, nat_lt, arith, inl, inr, eq-eqb, rules}
+use Rattle.std.proofs.Common.{◌≡◌, ◌≢◌, ℕ, ◌+◌, ◌/◌, ◌%◌, ◌<◌, ◌≤◌, List, [], ◌∷◌, ◌++◌, Bool, true, false, cond}
+use Rattle.std.proofs.Common.{Option, None, Some, length, map, get_or, set, take, drop, replicate, refl, ap, sym, ◌∙◌}
+use Rattle.std.proofs.Common.{subst, nat_eq, nat_lt, arith, inl, inr, eq-eqb, rules}
 use Rattle.std.proofs.Math.ListN.{get_or-map}
 use Rattle.std.proofs.Math.Seq.{get_or-append_seam}
-use Rattle.std.proofs.lemmas.List.{length-set, length_push, get_or-set_same, get_or-set_other, get_or_past, get_or_read, get_or-replicate, get_or_append_left, length-replicate, places}
+use Rattle.std.proofs.lemmas.List.{length-set, length_push, get_or-set_same, get_or-set_other, get_or_past, get_or_read}
+use Rattle.std.proofs.lemmas.List.{get_or-replicate, get_or_append_left, length-replicate, places}
 use Rattle.std.proofs.lemmas.List.Sums.{sum_by-set, sum_by_push, get_or-le-sum_by, count_by-le-length}
 use Rattle.std.proofs.lemmas.List.Elements.{All-append, All-set}
 use Rattle.std.proofs.lemmas.Bool.{cases_lt, cases_eq}
@@ -12,26 +15,33 @@ use Rattle.std.specs.List.{All, count_by}
 use Rattle.std.specs.Option.{is_none, is_some, option_to_list}
 use Rattle.memory_files.specs.Pages.{names, held, byte_in, byte_at, SameBut, ArePages}
 
-held_at : (pool : List (List ℕ)) (places : List (Option ℕ)) (place : ℕ) → get_or (map (held pool) places) place None ≡ held pool (get_or places place None)
+held_at : (pool : List (List ℕ)) (places : List (Option ℕ)) (place : ℕ)
+    → get_or (map (held pool) places) place None ≡ held pool (get_or places place None)
 held_at pool places place = get_or-map (held pool) places place None
 
 -- a place that names a page is one of the places
-within_places : (places : List (Option ℕ)) (place page : ℕ) → get_or places place None ≡ Some page → place < length places
+within_places : (places : List (Option ℕ)) (place page : ℕ) → get_or places place None ≡ Some page
+    → place < length places
 within_places places place page named =
-    elim (cases_lt place (length places)) [ inl h ↦ h | inr h ↦ let e : get_or places place None ≡ None = get_or_past places place None h in cc ]
+    elim (cases_lt place (length places))
+    [ inl h ↦ h | inr h ↦ let e : get_or places place None ≡ None = get_or_past places place None h in cc ]
 
-count_set : {X : Type 0} (p : X → Bool) (xs : List X) (i : ℕ) (y d : X) → i < length xs → count_by p (set xs i y) + cond (p (get_or xs i d)) 1 0 ≡ count_by p xs + cond (p y) 1 0
+count_set : {X : Type 0} (p : X → Bool) (xs : List X) (i : ℕ) (y d : X) → i < length xs
+    → count_by p (set xs i y) + cond (p (get_or xs i d)) 1 0 ≡ count_by p xs + cond (p y) 1 0
 count_set p xs i y d h = sum_by-set (λ x. cond (p x) 1 0) xs i y d h
 
-count_push : {X : Type 0} (p : X → Bool) (xs : List X) (y : X) → count_by p (xs ++ y ∷ []) ≡ count_by p xs + cond (p y) 1 0
+count_push : {X : Type 0} (p : X → Bool) (xs : List X) (y : X)
+    → count_by p (xs ++ y ∷ []) ≡ count_by p xs + cond (p y) 1 0
 count_push p xs y = sum_by_push (λ x. cond (p x) 1 0) xs y
 
 names_itself : (page : ℕ) → names page (Some page) ≡ true
 names_itself page = eq-eqb page page refl
 
-named_counts : (places : List (Option ℕ)) (place page : ℕ) → get_or places place None ≡ Some page → 1 ≤ count_by (names page) places
+named_counts : (places : List (Option ℕ)) (place page : ℕ) → get_or places place None ≡ Some page
+    → 1 ≤ count_by (names page) places
 named_counts places place page named =
-    let least = get_or-le-sum_by (λ (x : Option ℕ). cond (names page x) 1 0) places place None (within_places places place page named) in
+    let least = get_or-le-sum_by (λ (x : Option ℕ). cond (names page x) 1 0) places place None
+    (within_places places place page named) in
     let least' = rw named at least in
     rw (names_itself page) at least'
 
@@ -42,43 +52,55 @@ at_most_once : (a b page size : ℕ) → a + b ≡ cond (nat_lt page size) 1 0 �
 at_most_once a b page size once = grind (arith, nat_tests)
 
 -- a page that a place names is in the pool
-pub in_pool : {pool : List (List ℕ)} {places : List (Option ℕ)} {free : List ℕ} → ArePages pool places free → (place page : ℕ) → get_or places place None ≡ Some page → page < length pool
+pub in_pool : {pool : List (List ℕ)} {places : List (Option ℕ)} {free : List ℕ} → ArePages pool places free
+    → (place page : ℕ) → get_or places place None ≡ Some page → page < length pool
 in_pool {pool} {places} {free} pages place page named =
     let least = named_counts places place page named in
     once_in_pool _ _ page (length pool) (pages.once page) (omega arith)
 
 -- no other place names it
-named_once : {pool : List (List ℕ)} {places : List (Option ℕ)} {free : List ℕ} → ArePages pool places free → (place page other : ℕ) → get_or places place None ≡ Some page → other ≢ place → get_or places other None ≢ Some page
+named_once : {pool : List (List ℕ)} {places : List (Option ℕ)} {free : List ℕ} → ArePages pool places free
+    → (place page other : ℕ) → get_or places place None ≡ Some page → other ≢ place
+    → get_or places other None ≢ Some page
 named_once {pool} {places} {free} pages place page other named apart same =
-    let less = rw (named, names_itself page) at (count_set (names page) places place None None (within_places places place page named)) in
-    let still : get_or (set places place None) other None ≡ Some page = get_or-set_other places place other None None apart ∙ same in
+    let less = rw (named, names_itself page) at
+    (count_set (names page) places place None None (within_places places place page named)) in
+    let still : get_or (set places place None) other None ≡ Some page =
+    get_or-set_other places place other None None apart ∙ same in
     let least = named_counts (set places place None) other page still in
     let most = at_most_once _ _ page (length pool) (pages.once page) in
     omega arith
 
-free_counts : (free rest : List ℕ) (page : ℕ) → free ≡ rest ++ page ∷ [] → count_by (λ other. nat_eq other page) free ≡ count_by (λ other. nat_eq other page) rest + 1
-free_counts free rest page is = rw (is, count_push (λ (other : ℕ). nat_eq other page) rest page, eq-eqb page page refl) refl
+free_counts : (free rest : List ℕ) (page : ℕ) → free ≡ rest ++ page ∷ []
+    → count_by (λ other. nat_eq other page) free ≡ count_by (λ other. nat_eq other page) rest + 1
+free_counts free rest page is = rw (is, count_push (λ (other : ℕ). nat_eq other page) rest page, eq-eqb page page refl)
+    refl
 
 -- a free page is in the pool
-pub free_in_pool : {pool : List (List ℕ)} {places : List (Option ℕ)} {free : List ℕ} → ArePages pool places free → (rest : List ℕ) (page : ℕ) → free ≡ rest ++ page ∷ [] → page < length pool
+pub free_in_pool : {pool : List (List ℕ)} {places : List (Option ℕ)} {free : List ℕ} → ArePages pool places free
+    → (rest : List ℕ) (page : ℕ) → free ≡ rest ++ page ∷ [] → page < length pool
 free_in_pool {pool} {places} {free} pages rest page is =
     let more = free_counts free rest page is in
     once_in_pool _ _ page (length pool) (pages.once page) (omega arith)
 
 -- no place names it
-free_unnamed : {pool : List (List ℕ)} {places : List (Option ℕ)} {free : List ℕ} → ArePages pool places free → (rest : List ℕ) (page other : ℕ) → free ≡ rest ++ page ∷ [] → get_or places other None ≢ Some page
+free_unnamed : {pool : List (List ℕ)} {places : List (Option ℕ)} {free : List ℕ} → ArePages pool places free
+    → (rest : List ℕ) (page other : ℕ) → free ≡ rest ++ page ∷ [] → get_or places other None ≢ Some page
 free_unnamed {pool} {places} {free} pages rest page other is same =
     let more = free_counts free rest page is in
     let least = named_counts places other page same in
     let most = at_most_once _ _ page (length pool) (pages.once page) in
     omega arith
 
-held_other : (pool : List (List ℕ)) (page : ℕ) (bytes : List ℕ) (place : Option ℕ) → place ≢ Some page → held (set pool page bytes) place ≡ held pool place
+held_other : (pool : List (List ℕ)) (page : ℕ) (bytes : List ℕ) (place : Option ℕ) → place ≢ Some page
+    → held (set pool page bytes) place ≡ held pool place
 held_other pool page bytes None apart = refl
-held_other pool page bytes (Some other) apart = ap Some (get_or-set_other pool page other bytes [] (λ e. apart (ap Some e)))
+held_other pool page bytes (Some other) apart =
+    ap Some (get_or-set_other pool page other bytes [] (λ e. apart (ap Some e)))
 
 -- the bytes of a page change
-pub written : {pool : List (List ℕ)} {places : List (Option ℕ)} {free : List ℕ} → ArePages pool places free → (page : ℕ) (bytes : List ℕ) → length bytes ≡ 512 → ArePages (set pool page bytes) places free
+pub written : {pool : List (List ℕ)} {places : List (Option ℕ)} {free : List ℕ} → ArePages pool places free
+    → (page : ℕ) (bytes : List ℕ) → length bytes ≡ 512 → ArePages (set pool page bytes) places free
 written {pool} {places} {free} pages page bytes full = record {
   pool_len = rw length-set pages.pool_len;
   page_len = All-set (λ (x : List ℕ). length x ≡ 512) pool page bytes full pages.page_len;
@@ -87,19 +109,26 @@ written {pool} {places} {free} pages page bytes full = record {
   as_many = rw length-set pages.as_many;
 }
 
-pub written_at : {pool : List (List ℕ)} {places : List (Option ℕ)} {free : List ℕ} → ArePages pool places free → (place page : ℕ) (bytes : List ℕ) → get_or places place None ≡ Some page → get_or (map (held (set pool page bytes)) places) place None ≡ Some bytes
+pub written_at : {pool : List (List ℕ)} {places : List (Option ℕ)} {free : List ℕ} → ArePages pool places free
+    → (place page : ℕ) (bytes : List ℕ) → get_or places place None ≡ Some page
+    → get_or (map (held (set pool page bytes)) places) place None ≡ Some bytes
 written_at {pool} {places} {free} pages place page bytes named =
     let there = in_pool pages place page named in
-    held_at (set pool page bytes) places place ∙ ap (held (set pool page bytes)) named ∙ ap Some (get_or-set_same pool page bytes [] there)
+    held_at (set pool page bytes) places place ∙ ap (held (set pool page bytes)) named
+    ∙ ap Some (get_or-set_same pool page bytes [] there)
 
-pub written_others : {pool : List (List ℕ)} {places : List (Option ℕ)} {free : List ℕ} → ArePages pool places free → (place page : ℕ) (bytes : List ℕ) → get_or places place None ≡ Some page → SameBut place (map (held pool) places) (map (held (set pool page bytes)) places)
+pub written_others : {pool : List (List ℕ)} {places : List (Option ℕ)} {free : List ℕ} → ArePages pool places free
+    → (place page : ℕ) (bytes : List ℕ) → get_or places place None ≡ Some page
+    → SameBut place (map (held pool) places) (map (held (set pool page bytes)) places)
 written_others {pool} {places} {free} pages place page bytes named other apart =
     held_at (set pool page bytes) places other
     ∙ held_other pool page bytes (get_or places other None) (named_once pages place page other named apart)
     ∙ sym (held_at pool places other)
 
 -- an empty place names the free page that is taken
-pub taken : {pool : List (List ℕ)} {places : List (Option ℕ)} {free : List ℕ} → ArePages pool places free → (rest : List ℕ) (place page : ℕ) → free ≡ rest ++ page ∷ [] → place < 128 → get_or places place None ≡ None → ArePages pool (set places place (Some page)) rest
+pub taken : {pool : List (List ℕ)} {places : List (Option ℕ)} {free : List ℕ} → ArePages pool places free
+    → (rest : List ℕ) (place page : ℕ) → free ≡ rest ++ page ∷ [] → place < 128 → get_or places place None ≡ None
+    → ArePages pool (set places place (Some page)) rest
 taken {pool} {places} {free} pages rest place page is there empty = record {
   pool_len = pages.pool_len;
   page_len = pages.page_len;
@@ -107,7 +136,9 @@ taken {pool} {places} {free} pages rest place page is there empty = record {
   once = λ other.
       let within : place < length places = rw pages.places_len there in
       let named = rw empty at (count_set (names other) places place (Some page) None within) in
-      let fewer : count_by (λ (x : ℕ). nat_eq x other) free ≡ count_by (λ (x : ℕ). nat_eq x other) rest + cond (nat_eq page other) 1 0 = rw is (count_push (λ (x : ℕ). nat_eq x other) rest page) in
+      let fewer : count_by (λ (x : ℕ). nat_eq x other) free
+      ≡ count_by (λ (x : ℕ). nat_eq x other) rest + cond (nat_eq page other) 1 0 =
+      rw is (count_push (λ (x : ℕ). nat_eq x other) rest page) in
       let before = pages.once other in
       omega arith;
   as_many =
@@ -119,13 +150,17 @@ taken {pool} {places} {free} pages rest place page is there empty = record {
       omega arith;
 }
 
-pub taken_at : (pool : List (List ℕ)) (places : List (Option ℕ)) (place page : ℕ) (bytes : List ℕ) → place < length places → page < length pool → get_or (map (held (set pool page bytes)) (set places place (Some page))) place None ≡ Some bytes
+pub taken_at : (pool : List (List ℕ)) (places : List (Option ℕ)) (place page : ℕ) (bytes : List ℕ)
+    → place < length places → page < length pool
+    → get_or (map (held (set pool page bytes)) (set places place (Some page))) place None ≡ Some bytes
 taken_at pool places place page bytes there in_pool =
     held_at (set pool page bytes) (set places place (Some page)) place
     ∙ ap (held (set pool page bytes)) (get_or-set_same places place (Some page) None there)
     ∙ ap Some (get_or-set_same pool page bytes [] in_pool)
 
-pub taken_others : {pool : List (List ℕ)} {places : List (Option ℕ)} {free : List ℕ} → ArePages pool places free → (rest : List ℕ) (place page : ℕ) (bytes : List ℕ) → free ≡ rest ++ page ∷ [] → SameBut place (map (held pool) places) (map (held (set pool page bytes)) (set places place (Some page)))
+pub taken_others : {pool : List (List ℕ)} {places : List (Option ℕ)} {free : List ℕ} → ArePages pool places free
+    → (rest : List ℕ) (place page : ℕ) (bytes : List ℕ) → free ≡ rest ++ page ∷ []
+    → SameBut place (map (held pool) places) (map (held (set pool page bytes)) (set places place (Some page)))
 taken_others {pool} {places} {free} pages rest place page bytes is other apart =
     held_at (set pool page bytes) (set places place (Some page)) other
     ∙ ap (held (set pool page bytes)) (get_or-set_other places place other (Some page) None apart)
@@ -212,7 +247,9 @@ grown_others {pool} {places} {free} pages place bytes other apart =
     ∙ sym (held_at pool places other)
 
 -- a place is emptied, and its page is free
-pub given : {pool : List (List ℕ)} {places : List (Option ℕ)} {free : List ℕ} → ArePages pool places free → (place page : ℕ) → get_or places place None ≡ Some page → ArePages pool (set places place None) (free ++ page ∷ [])
+pub given : {pool : List (List ℕ)} {places : List (Option ℕ)} {free : List ℕ} → ArePages pool places free
+    → (place page : ℕ) → get_or places place None ≡ Some page
+    → ArePages pool (set places place None) (free ++ page ∷ [])
 given {pool} {places} {free} pages place page was = record {
   pool_len = pages.pool_len;
   page_len = pages.page_len;
@@ -230,22 +267,26 @@ given {pool} {places} {free} pages place page was = record {
       omega arith;
 }
 
-pub given_at : (pool : List (List ℕ)) (places : List (Option ℕ)) (place : ℕ) → get_or (map (held pool) (set places place None)) place None ≡ None
+pub given_at : (pool : List (List ℕ)) (places : List (Option ℕ)) (place : ℕ)
+    → get_or (map (held pool) (set places place None)) place None ≡ None
 given_at pool places place =
     held_at pool (set places place None) place
     ∙ elim (cases_lt place (length places)) as (λ _. held pool (get_or (set places place None) place None) ≡ None) [
       | inl h ↦ ap (held pool) (get_or-set_same places place None None h)
-      | inr h ↦ let past : length (set places place None) ≤ place = rw length-set h in ap (held pool) (get_or_past (set places place None) place None past)
+      | inr h ↦ let past : length (set places place None) ≤ place = rw length-set h in
+          ap (held pool) (get_or_past (set places place None) place None past)
     ]
 
-pub given_others : (pool : List (List ℕ)) (places : List (Option ℕ)) (place : ℕ) → SameBut place (map (held pool) places) (map (held pool) (set places place None))
+pub given_others : (pool : List (List ℕ)) (places : List (Option ℕ)) (place : ℕ)
+    → SameBut place (map (held pool) places) (map (held pool) (set places place None))
 given_others pool places place other apart =
     held_at pool (set places place None) other
     ∙ ap (held pool) (get_or-set_other places place other None None apart)
     ∙ sym (held_at pool places other)
 
 -- more free pages than empty places there are not
-pub room : {pool : List (List ℕ)} {places : List (Option ℕ)} {free : List ℕ} → ArePages pool places free → (place page : ℕ) → get_or places place None ≡ Some page → length free < 128
+pub room : {pool : List (List ℕ)} {places : List (Option ℕ)} {free : List ℕ} → ArePages pool places free
+    → (place page : ℕ) → get_or places place None ≡ Some page → length free < 128
 room {pool} {places} {free} pages place page named =
     let within = within_places places place page named in
     let fewer = rw named at (count_set is_none places place None None within) in
@@ -257,34 +298,45 @@ room {pool} {places} {free} pages place page named =
     omega arith
 
 -- bytes of places that did not change, and of one that names a page or is empty
-pub byte_same : (old new : List (Option (List ℕ))) (place : ℕ) → SameBut place old new → (position : ℕ) → position / 512 ≢ place → byte_at new position ≡ byte_at old position
+pub byte_same : (old new : List (Option (List ℕ))) (place : ℕ) → SameBut place old new → (position : ℕ)
+    → position / 512 ≢ place → byte_at new position ≡ byte_at old position
 byte_same old new place same position apart = ap (λ held. byte_in held (position % 512)) (same (position / 512) apart)
 
-pub byte_there : (places : List (Option (List ℕ))) (place : ℕ) (page : List ℕ) → get_or places place None ≡ Some page → (position : ℕ) → position / 512 ≡ place → byte_at places position ≡ get_or page (position % 512) 0
-byte_there places place page is position at = ap (λ place'. byte_in (get_or places place' None) (position % 512)) at ∙ ap (λ held. byte_in held (position % 512)) is
+pub byte_there : (places : List (Option (List ℕ))) (place : ℕ) (page : List ℕ) → get_or places place None ≡ Some page
+    → (position : ℕ) → position / 512 ≡ place → byte_at places position ≡ get_or page (position % 512) 0
+byte_there places place page is position at = ap (λ place'. byte_in (get_or places place' None) (position % 512)) at
+    ∙ ap (λ held. byte_in held (position % 512)) is
 
-pub byte_empty : (places : List (Option (List ℕ))) (place : ℕ) → get_or places place None ≡ None → (position : ℕ) → position / 512 ≡ place → byte_at places position ≡ 0
-byte_empty places place is position at = ap (λ place'. byte_in (get_or places place' None) (position % 512)) at ∙ ap (λ held. byte_in held (position % 512)) is
+pub byte_empty : (places : List (Option (List ℕ))) (place : ℕ) → get_or places place None ≡ None → (position : ℕ)
+    → position / 512 ≡ place → byte_at places position ≡ 0
+byte_empty places place is position at = ap (λ place'. byte_in (get_or places place' None) (position % 512)) at
+    ∙ ap (λ held. byte_in held (position % 512)) is
 
 -- what was read at an index is what the place names
-pub read_place : (places : List (Option ℕ)) (place : ℕ) (read at : Option ℕ) → place < length places → read ≡ get_or places place read → read ≡ at → get_or places place None ≡ at
+pub read_place : (places : List (Option ℕ)) (place : ℕ) (read at : Option ℕ) → place < length places
+    → read ≡ get_or places place read → read ≡ at → get_or places place None ≡ at
 read_place places place read at there is same = sym (get_or_read places place read there is None) ∙ same
 
 -- a list of which a part is overwritten, by index
-in_front : (xs ys : List ℕ) (at size k : ℕ) → k < at → at ≤ length xs → get_or (put_mid at size xs ys) k 0 ≡ get_or xs k 0
+in_front : (xs ys : List ℕ) (at size k : ℕ) → k < at → at ≤ length xs
+    → get_or (put_mid at size xs ys) k 0 ≡ get_or xs k 0
 in_front xs ys at size k before within = grind (arith, places)
 
-in_middle : (xs ys : List ℕ) (at size k : ℕ) → k < length ys → at ≤ length xs → get_or (put_mid at size xs ys) (at + k) 0 ≡ get_or ys k 0
+in_middle : (xs ys : List ℕ) (at size k : ℕ) → k < length ys → at ≤ length xs
+    → get_or (put_mid at size xs ys) (at + k) 0 ≡ get_or ys k 0
 in_middle xs ys at size k inside within = grind (arith, places)
 
-behind_middle : (xs ys : List ℕ) (at size k : ℕ) → size ≡ length ys → at + size ≤ k → at ≤ length xs → get_or (put_mid at size xs ys) k 0 ≡ get_or xs k 0
+behind_middle : (xs ys : List ℕ) (at size k : ℕ) → size ≡ length ys → at + size ≤ k → at ≤ length xs
+    → get_or (put_mid at size xs ys) k 0 ≡ get_or xs k 0
 behind_middle xs ys at size k is behind within = grind (arith, places)
 
-length_put_mid : (xs ys : List ℕ) (at size : ℕ) → size ≡ length ys → at + size ≤ length xs → length (put_mid at size xs ys) ≡ length xs
+length_put_mid : (xs ys : List ℕ) (at size : ℕ) → size ≡ length ys → at + size ≤ length xs
+    → length (put_mid at size xs ys) ≡ length xs
 length_put_mid xs ys at size is within = grind (arith, places)
 
 -- a part that is filled is as long as it was
-pub filled : (xs ys : List ℕ) (at size : ℕ) → at + size ≤ length xs → length ys ≡ length (mid_of at size xs) → size ≡ length ys
+pub filled : (xs ys : List ℕ) (at size : ℕ) → at + size ≤ length xs → length ys ≡ length (mid_of at size xs)
+    → size ≡ length ys
 filled xs ys at size within is = grind (arith, places)
 
 pub zeros : (xs : List ℕ) (n k : ℕ) → xs ≡ replicate n 0 → get_or xs k 0 ≡ 0
@@ -292,32 +344,43 @@ zeros xs n k is =
     ap (λ ys. get_or ys k 0) is
     ∙ elim (cases_lt k n) [
       | inl h ↦ get_or-replicate n k 0 0 h
-      | inr h ↦ let past : length (replicate {A = ℕ} n 0) ≤ k = rw (length-replicate {A = ℕ} n 0) h in get_or_past (replicate n 0) k 0 past
+      | inr h ↦ let past : length (replicate {A = ℕ} n 0) ≤ k = rw (length-replicate {A = ℕ} n 0) h in
+          get_or_past (replicate n 0) k 0 past
     ]
 
 -- each page that is read has 512 bytes
-pub page_full : {pool : List (List ℕ)} {places : List (Option ℕ)} {free : List ℕ} → ArePages pool places free → (page : ℕ) (bytes : List ℕ) → page < length pool → bytes ≡ get_or pool page bytes → length bytes ≡ 512
+pub page_full : {pool : List (List ℕ)} {places : List (Option ℕ)} {free : List ℕ} → ArePages pool places free
+    → (page : ℕ) (bytes : List ℕ) → page < length pool → bytes ≡ get_or pool page bytes → length bytes ≡ 512
 page_full {pool} {places} {free} pages page bytes there read =
     let bytes_are : bytes ≡ get_or pool page [] = get_or_read pool page bytes there read [] in
     rw bytes_are (pages.page_len page [] there)
 
 -- bytes that are as before in the page of this place, or lie elsewhere
-unchanged : (old new : List (Option (List ℕ))) (place : ℕ) (before after : List ℕ) → get_or old place None ≡ Some before → get_or new place None ≡ Some after → SameBut place old new → (position : ℕ) → (position / 512 ≡ place → get_or after (position % 512) 0 ≡ get_or before (position % 512) 0) → byte_at new position ≡ byte_at old position
+unchanged : (old new : List (Option (List ℕ))) (place : ℕ) (before after : List ℕ) → get_or old place None ≡ Some before
+    → get_or new place None ≡ Some after → SameBut place old new → (position : ℕ)
+    → (position / 512 ≡ place → get_or after (position % 512) 0 ≡ get_or before (position % 512) 0)
+    → byte_at new position ≡ byte_at old position
 unchanged old new place before after was is others position same =
     elim (cases_eq (position / 512) place) [
-      | inl here ↦ byte_there new place after is position here ∙ same here ∙ sym (byte_there old place before was position here)
+      | inl here ↦ byte_there new place after is position here ∙ same here
+          ∙ sym (byte_there old place before was position here)
       | inr elsewhere ↦ byte_same old new place others position elsewhere
     ]
 
 -- what a piece that is laid into the page of a place leaves
-pub record Patched (pool patched : List (List ℕ)) (places : List (Option ℕ)) (free : List ℕ) (start : ℕ) (piece : List ℕ) : Type 0 where
+pub record Patched (pool patched : List (List ℕ)) (places : List (Option ℕ)) (free : List ℕ) (start : ℕ)
+    (piece : List ℕ) : Type 0 where
   pub pages : ArePages patched places free
   pub before : (k : ℕ) → k < start → byte_at (map (held patched) places) k ≡ byte_at (map (held pool) places) k
   pub bytes : (k : ℕ) → k < length piece → byte_at (map (held patched) places) (start + k) ≡ get_or piece k 0
-  pub behind : (k : ℕ) → start + length piece ≤ k → byte_at (map (held patched) places) k ≡ byte_at (map (held pool) places) k
+  pub behind : (k : ℕ) → start + length piece ≤ k
+      → byte_at (map (held patched) places) k ≡ byte_at (map (held pool) places) k
   pub others : SameBut (start / 512) (map (held pool) places) (map (held patched) places)
 
-pub patched : {pool : List (List ℕ)} {places : List (Option ℕ)} {free : List ℕ} → ArePages pool places free → (start place offset page size : ℕ) (bytes piece : List ℕ) → place ≡ start / 512 → offset ≡ start % 512 → get_or places place None ≡ Some page → bytes ≡ get_or pool page bytes → size ≡ length piece → offset + size ≤ 512 → Patched pool (set pool page (put_mid offset size bytes piece)) places free start piece
+pub patched : {pool : List (List ℕ)} {places : List (Option ℕ)} {free : List ℕ} → ArePages pool places free
+    → (start place offset page size : ℕ) (bytes piece : List ℕ) → place ≡ start / 512 → offset ≡ start % 512
+    → get_or places place None ≡ Some page → bytes ≡ get_or pool page bytes → size ≡ length piece → offset + size ≤ 512
+    → Patched pool (set pool page (put_mid offset size bytes piece)) places free start piece
 patched {pool} {places} {free} pages start place offset page size bytes piece at into named read is within =
     let there = in_pool pages place page named in
     let bytes_are : bytes ≡ get_or pool page [] = get_or_read pool page bytes there read [] in
@@ -326,25 +389,31 @@ patched {pool} {places} {free} pages start place offset page size bytes piece at
     let long : length after ≡ 512 = length_put_mid bytes piece offset size is (omega arith) ∙ full in
     let old = map (held pool) places in
     let new = map (held (set pool page after)) places in
-    let was : get_or old place None ≡ Some bytes = held_at pool places place ∙ ap (held pool) named ∙ ap Some (sym bytes_are) in
+    let was : get_or old place None ≡ Some bytes = held_at pool places place ∙ ap (held pool) named
+    ∙ ap Some (sym bytes_are) in
     let now : get_or new place None ≡ Some after = written_at pages place page after named in
     let others = written_others pages place page after named in
     record {
       pages = written pages page after long;
-      before = λ k h. unchanged old new place bytes after was now others k (λ here. in_front bytes piece offset size (k % 512) (omega arith) (omega arith));
+      before = λ k h. unchanged old new place bytes after was now others k
+          (λ here. in_front bytes piece offset size (k % 512) (omega arith) (omega arith));
       bytes = λ k h.
           byte_there new place after now (start + k) (omega arith)
           ∙ ap (λ i. get_or after i 0) (let e : (start + k) % 512 ≡ offset + k = omega arith in e)
           ∙ in_middle bytes piece offset size k h (omega arith);
-      behind = λ k h. unchanged old new place bytes after was now others k (λ here. behind_middle bytes piece offset size (k % 512) is (omega arith) (omega arith));
+      behind = λ k h. unchanged old new place bytes after was now others k
+          (λ here. behind_middle bytes piece offset size (k % 512) is (omega arith) (omega arith));
       others = subst (λ p. SameBut p old new) at others;
     }
 
 -- an empty place that has a page of zeros shows the same bytes
-pub cleared : (old new : List (Option (List ℕ))) (place : ℕ) (page : List ℕ) → get_or old place None ≡ None → get_or new place None ≡ Some page → ((k : ℕ) → get_or page k 0 ≡ 0) → SameBut place old new → (position : ℕ) → byte_at new position ≡ byte_at old position
+pub cleared : (old new : List (Option (List ℕ))) (place : ℕ) (page : List ℕ) → get_or old place None ≡ None
+    → get_or new place None ≡ Some page → ((k : ℕ) → get_or page k 0 ≡ 0) → SameBut place old new → (position : ℕ)
+    → byte_at new position ≡ byte_at old position
 cleared old new place page was is blank others position =
     elim (cases_eq (position / 512) place) [
-      | inl here ↦ byte_there new place page is position here ∙ blank (position % 512) ∙ sym (byte_empty old place was position here)
+      | inl here ↦ byte_there new place page is position here ∙ blank (position % 512)
+          ∙ sym (byte_empty old place was position here)
       | inr elsewhere ↦ byte_same old new place others position elsewhere
     ]
 
@@ -352,10 +421,12 @@ pub not_some : (place : Option ℕ) → false ≡ is_some place → place ≡ No
 not_some None is = refl
 not_some (Some page) is = cc
 
-pub last_of : (free rest : List ℕ) (popped : Option ℕ) (page : ℕ) → free ≡ rest ++ option_to_list popped → popped ≡ Some page → free ≡ rest ++ page ∷ []
+pub last_of : (free rest : List ℕ) (popped : Option ℕ) (page : ℕ) → free ≡ rest ++ option_to_list popped
+    → popped ≡ Some page → free ≡ rest ++ page ∷ []
 last_of free rest popped page is some = rw some at is
 
-pub empty_at : (pool : List (List ℕ)) (places : List (Option ℕ)) (place : ℕ) → get_or places place None ≡ None → get_or (map (held pool) places) place None ≡ None
+pub empty_at : (pool : List (List ℕ)) (places : List (Option ℕ)) (place : ℕ) → get_or places place None ≡ None
+    → get_or (map (held pool) places) place None ≡ None
 empty_at pool places place empty = held_at pool places place ∙ ap (held pool) empty
 
 held_some : (pool : List (List ℕ)) (place : Option ℕ) → is_some (held pool place) ≡ true → is_some place ≡ true
@@ -363,21 +434,29 @@ held_some pool None is = is
 held_some pool (Some page) is = refl
 
 -- where a place shows bytes, it names a page
-pub some_read : (pool : List (List ℕ)) (places : List (Option ℕ)) (place : ℕ) (read : Option ℕ) → place < length places → read ≡ get_or places place read → is_some (get_or (map (held pool) places) place None) ≡ true → is_some read ≡ true
+pub some_read : (pool : List (List ℕ)) (places : List (Option ℕ)) (place : ℕ) (read : Option ℕ) → place < length places
+    → read ≡ get_or places place read → is_some (get_or (map (held pool) places) place None) ≡ true
+    → is_some read ≡ true
 some_read pool places place read there is some =
     let held_there : is_some (held pool (get_or places place None)) ≡ true = rw held_at at some in
     let there' = held_some pool (get_or places place None) held_there in
     rw (get_or_read places place read there is None) there'
 
--- a byte of a page that a place names, and of an empty place, so far behind a position
-pub read_named : (pool : List (List ℕ)) (places : List (Option ℕ)) (start place offset page : ℕ) (bytes : List ℕ) (k : ℕ) → place ≡ start / 512 → offset ≡ start % 512 → get_or places place None ≡ Some page → page < length pool → bytes ≡ get_or pool page bytes → offset + k < 512 → byte_at (map (held pool) places) (start + k) ≡ get_or bytes (offset + k) 0
+-- a byte of a page that a place names, and of an empty place, so far after a position
+pub read_named : (pool : List (List ℕ)) (places : List (Option ℕ)) (start place offset page : ℕ) (bytes : List ℕ)
+    (k : ℕ) → place ≡ start / 512 → offset ≡ start % 512 → get_or places place None ≡ Some page → page < length pool
+    → bytes ≡ get_or pool page bytes → offset + k < 512
+    → byte_at (map (held pool) places) (start + k) ≡ get_or bytes (offset + k) 0
 read_named pool places start place offset page bytes k at into named there read within =
     let bytes_are : bytes ≡ get_or pool page [] = get_or_read pool page bytes there read [] in
-    let shown : get_or (map (held pool) places) place None ≡ Some bytes = held_at pool places place ∙ ap (held pool) named ∙ ap Some (sym bytes_are) in
+    let shown : get_or (map (held pool) places) place None ≡ Some bytes = held_at pool places place
+    ∙ ap (held pool) named ∙ ap Some (sym bytes_are) in
     byte_there (map (held pool) places) place bytes shown (start + k) (omega arith)
     ∙ ap (λ i. get_or bytes i 0) (let e : (start + k) % 512 ≡ offset + k = omega arith in e)
 
-pub read_empty : (pool : List (List ℕ)) (places : List (Option ℕ)) (start place offset k : ℕ) → place ≡ start / 512 → offset ≡ start % 512 → get_or places place None ≡ None → offset + k < 512 → byte_at (map (held pool) places) (start + k) ≡ 0
+pub read_empty : (pool : List (List ℕ)) (places : List (Option ℕ)) (start place offset k : ℕ) → place ≡ start / 512
+    → offset ≡ start % 512 → get_or places place None ≡ None → offset + k < 512
+    → byte_at (map (held pool) places) (start + k) ≡ 0
 read_empty pool places start place offset k at into empty within =
     byte_empty (map (held pool) places) place (empty_at pool places place empty) (start + k) (omega arith)
 
@@ -385,7 +464,8 @@ pub in_mid : (xs : List ℕ) (at size k : ℕ) → k < size → get_or (mid_of a
 in_mid xs at size k inside = grind (arith, places)
 
 -- the head of a list, after a piece that is as long as it was copied there
-pub in_head : (piece into : List ℕ) (count k : ℕ) → length piece ≡ length (take count into) → count ≤ length into → k < count → get_or (piece ++ drop count into) k 0 ≡ get_or piece k 0
+pub in_head : (piece into : List ℕ) (count k : ℕ) → length piece ≡ length (take count into) → count ≤ length into
+    → k < count → get_or (piece ++ drop count into) k 0 ≡ get_or piece k 0
 in_head piece into count k same within inside = grind (arith, places)
 
 pub none_at : (places : List (Option ℕ)) (n place : ℕ) → places ≡ replicate n None → get_or places place None ≡ None
@@ -393,5 +473,7 @@ none_at places n place is =
     ap (λ xs. get_or xs place None) is
     ∙ elim (cases_lt place n) [
       | inl h ↦ get_or-replicate n place None None h
-      | inr h ↦ let past : length (replicate {A = Option ℕ} n None) ≤ place = rw (length-replicate {A = Option ℕ} n None) h in get_or_past (replicate n None) place None past
+      | inr h
+          ↦ let past : length (replicate {A = Option ℕ} n None) ≤ place = rw (length-replicate {A = Option ℕ} n None) h
+          in get_or_past (replicate n None) place None past
     ]

@@ -1,6 +1,9 @@
 -- Internal: no contract of the headline or of a command stands on it.
--- How the bytes of a file stand in pages of 512 bytes. Each of its 128 places names a page or is empty.
-use Rattle.std.specs.Prelude.{ℕ, ◌≡◌, ◌≢◌, ◌⊎◌, ◌+◌, ◌*◌, ◌≤◌, ◌/◌, ◌%◌, ◌==◌, nat_lt, Bool, false, List, [], length, map, Option, None, Some, if◌then◌else◌, slice_index, slice_index_or}
+-- How the bytes of a file stand in pages of 512 bytes. Each of
+-- its 128 places names a page or is empty.
+use Rattle.std.specs.Prelude.{ℕ, ◌≡◌, ◌≢◌, ◌⊎◌, ◌+◌, ◌*◌, ◌≤◌, ◌/◌, ◌%◌, ◌==◌, nat_lt, Bool, false}
+use Rattle.std.specs.Prelude.{List, [], length, map, Option, None, Some, if◌then◌else◌, slice_index}
+use Rattle.std.specs.Prelude.{slice_index_or}
 use Rattle.std.specs.Option.{is_none}
 use Rattle.std.specs.List.{All, count_by, range_with_len}
 
@@ -27,9 +30,10 @@ byte_at places position = byte_in (slice_index_or places (position / 512) None) 
 abbrev pub bytes_of : List (Option (List ℕ)) → ℕ → List ℕ
 bytes_of places size = map (byte_at places) (range_with_len 0 size)
 
--- each place that lies behind this position is empty
+-- each place that lies after this position is empty
 abbrev pub EmptyBehind : List (Option (List ℕ)) → ℕ → Type 0
-EmptyBehind places position = (place : ℕ) → position ≤ 512 * place → slice_index_or places place None ≡ None
+EmptyBehind places position = (place : ℕ) → position ≤ 512 * place
+    → slice_index_or places place None ≡ None
 
 -- each byte from this position on reads as 0
 abbrev pub ZeroFrom : List (Option (List ℕ)) → ℕ → Type 0
@@ -46,7 +50,8 @@ SameBut place old new = (other : ℕ) → other ≢ place → SameAt other old n
 -- each place that has none of so many bytes from this position on holds what it held before
 abbrev pub SameOutside : ℕ → ℕ → List (Option (List ℕ)) → List (Option (List ℕ)) → Type 0
 SameOutside position count old new =
-    (place : ℕ) → (512 * place + 512 ≤ position) ⊎ (position + count ≤ 512 * place) → SameAt place old new
+    (place : ℕ) → (512 * place + 512 ≤ position) ⊎ (position + count ≤ 512 * place)
+    → SameAt place old new
 
 -- the pool has at most 128 pages of 512 bytes. Each stands once among what places name and the
 -- free ones, and no other page does; so there are as many pages as are free and as places name

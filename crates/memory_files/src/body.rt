@@ -1,4 +1,5 @@
-ghost use Rattle.std.specs.Prelude.{◌≡◌, ℕ, ◌+◌, ◌-◌, ◌<◌, ◌≤◌, ◌==◌, List, [], length, take, drop, IfOk, IfErr};
+ghost use Rattle.std.specs.Prelude.{◌≡◌, ℕ, ◌+◌, ◌-◌, ◌<◌, ◌≤◌, ◌==◌, List, [], length, take, drop};
+ghost use Rattle.std.specs.Prelude.{IfOk, IfErr};
 ghost use Rattle.sequential_object.specs.Files.{bytes_at, written, resized};
 ghost use Rattle.memory_files.specs.Pages.{bytes_of, EmptyBehind, SameOutside, ZeroFrom};
 
@@ -20,7 +21,8 @@ impl Model for FileBody {
 
     ghost view = { λ f. bytes_of f.pages f.size };
 
-    ghost invariant = { λ f. (f.size ≤ 65536) × EmptyBehind f.pages f.size × ZeroFrom f.pages f.size };
+    ghost invariant = { λ f. (f.size ≤ 65536) × EmptyBehind f.pages f.size
+        × ZeroFrom f.pages f.size };
 }
 
 impl FileBody {
@@ -55,9 +57,12 @@ impl FileBody {
     /// under the limit. A gap before the position becomes 0 bytes. Where bytes were given and not one
     /// fits, that is `EFBIG`, and the file is as it was.
     pub fn write_at(&mut self, position: u64, bytes: &[u8]) -> Result<usize, Errno>
-        ensures ok { IfOk result (λ count. written self.old position bytes.now ≡ Ok (self.new, count)) }
-        ensures within_limit { 0 < length bytes.now → IfOk result (λ count. position + count ≤ 65536) }
-        ensures err { IfErr result (λ error. (written self.old position bytes.now ≡ Err error) × (self.new ≡ self.old)) }
+        ensures ok { IfOk result (λ count. written self.old position bytes.now
+            ≡ Ok (self.new, count)) }
+        ensures within_limit { 0 < length bytes.now
+            → IfOk result (λ count. position + count ≤ 65536) }
+        ensures err { IfErr result (λ error. (written self.old position bytes.now ≡ Err error)
+            × (self.new ≡ self.old)) }
     {
         write_over(&mut self.pages, &mut self.size, position, bytes)
     }
@@ -105,9 +110,11 @@ fn write_over(
     requires within { size.old ≤ 65536 }
     requires empty { EmptyBehind pages.old size.old }
     requires zero { ZeroFrom pages.old size.old }
-    ensures ok { IfOk result (λ count. written (bytes_of pages.old size.old) position bytes.now ≡ Ok (bytes_of pages.new size.new, count)) }
+    ensures ok { IfOk result (λ count. written (bytes_of pages.old size.old) position bytes.now
+        ≡ Ok (bytes_of pages.new size.new, count)) }
     ensures within_limit { 0 < length bytes.now → IfOk result (λ count. position + count ≤ 65536) }
-    ensures err { IfErr result (λ error. (written (bytes_of pages.old size.old) position bytes.now ≡ Err error) × (pages.new ≡ pages.old) × (size.new ≡ size.old)) }
+    ensures err { IfErr result (λ error. (written (bytes_of pages.old size.old) position bytes.now
+        ≡ Err error) × (pages.new ≡ pages.old) × (size.new ≡ size.old)) }
     ensures others { IfOk result (λ count. SameOutside position count pages.old pages.new) }
     ensures within { size.new ≤ 65536 }
     ensures empty { EmptyBehind pages.new size.new }

@@ -1,4 +1,5 @@
-ghost use Rattle.std.specs.Prelude.{◌≡◌, ℕ, ◌+◌, ◌-◌, ◌*◌, ◌<◌, ◌≤◌, ◌/◌, ◌%◌, length, drop, min, None, slice_index, slice_index_or, IfOk, IsSome};
+ghost use Rattle.std.specs.Prelude.{◌≡◌, ℕ, ◌+◌, ◌-◌, ◌*◌, ◌<◌, ◌≤◌, ◌/◌, ◌%◌, length, drop, min};
+ghost use Rattle.std.specs.Prelude.{None, slice_index, slice_index_or, IfOk, IsSome};
 ghost use Rattle.memory_files.specs.Pages.{byte_at, EmptyBehind, SameAt, SameBut, ZeroFrom};
 
 use std::alloc::{AllocError, Global};
@@ -47,7 +48,8 @@ impl Pages {
     // Reads from a position into all of `into`.
     pub(crate) fn read(&self, start: usize, into: &mut [u8])
         requires within { start + length into.old ≤ 65536 }
-        ensures { (k : ℕ) → k < length into.old → slice_index into.new k ≡ byte_at self.now (start + k) }
+        ensures { (k : ℕ) → k < length into.old
+            → slice_index into.new k ≡ byte_at self.now (start + k) }
     {
         let mut done = 0;
         while done < into.len() {
@@ -59,7 +61,8 @@ impl Pages {
     fn read_piece(&self, start: usize, into: &mut [u8]) -> usize
         requires within { start < 65536 }
         ensures count { result ≡ min (length into.old) (512 - start % 512) }
-        ensures bytes { (k : ℕ) → k < result → slice_index into.new k ≡ byte_at self.now (start + k) }
+        ensures bytes { (k : ℕ) → k < result
+            → slice_index into.new k ≡ byte_at self.now (start + k) }
         ensures rest { drop result into.new ≡ drop result into.old }
     {
         let spot = Spot::of(start);
@@ -79,10 +82,14 @@ impl Pages {
     pub(crate) fn write(&mut self, start: usize, bytes: &[u8])
         requires within { start + length bytes.now ≤ 65536 }
         ensures before { (k : ℕ) → k < start → byte_at self.new k ≡ byte_at self.old k }
-        ensures bytes { (k : ℕ) → k < length bytes.now → byte_at self.new (start + k) ≡ slice_index bytes.now k }
-        ensures behind { (k : ℕ) → start + length bytes.now ≤ k → byte_at self.new k ≡ byte_at self.old k }
-        ensures places_before { (place : ℕ) → 512 * place + 512 ≤ start → SameAt place self.old self.new }
-        ensures places_behind { (place : ℕ) → start + length bytes.now ≤ 512 * place → SameAt place self.old self.new }
+        ensures bytes { (k : ℕ) → k < length bytes.now
+            → byte_at self.new (start + k) ≡ slice_index bytes.now k }
+        ensures behind { (k : ℕ) → start + length bytes.now ≤ k
+            → byte_at self.new k ≡ byte_at self.old k }
+        ensures places_before { (place : ℕ) → 512 * place + 512 ≤ start
+            → SameAt place self.old self.new }
+        ensures places_behind { (place : ℕ) → start + length bytes.now ≤ 512 * place
+            → SameAt place self.old self.new }
     {
         let mut done = 0;
         while done < bytes.len() {
@@ -95,7 +102,8 @@ impl Pages {
         requires within { start < 65536 }
         ensures count { result ≡ min (length bytes.now) (512 - start % 512) }
         ensures before { (k : ℕ) → k < start → byte_at self.new k ≡ byte_at self.old k }
-        ensures bytes { (k : ℕ) → k < result → byte_at self.new (start + k) ≡ slice_index bytes.now k }
+        ensures bytes { (k : ℕ) → k < result
+            → byte_at self.new (start + k) ≡ slice_index bytes.now k }
         ensures behind { (k : ℕ) → start + result ≤ k → byte_at self.new k ≡ byte_at self.old k }
         ensures others { SameBut (start / 512) self.old self.new }
     {
@@ -131,7 +139,7 @@ impl Pages {
         }
     }
 
-    // Has all bytes from `size` on read as 0, and gives back the pages that lie behind it. All bytes behind `end`
+    // Has all bytes from `size` on read as 0, and gives back the pages that lie after it. All bytes after `end`
     // lie at empty places.
     pub(crate) fn cut(&mut self, size: usize, end: usize)
         requires shorter { size < end }

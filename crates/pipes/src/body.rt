@@ -56,8 +56,10 @@ impl<const MOST: usize> StreamBody<MOST> {
     /// it ends where nobody writes any more, and otherwise blocks; then nothing changes.
     pub fn take(&mut self, into: &mut [u8], writers: bool) -> PipeAnswer
         ensures answer { result ≡ read_answer (stream_read self.old (length into.old) writers) }
-        ensures left { self.new ≡ left_by_read self.old (stream_read self.old (length into.old) writers) }
-        ensures bytes { into.new ≡ take (length into.old) self.old ++ drop (length self.old) into.old }
+        ensures left { self.new ≡ left_by_read self.old
+            (stream_read self.old (length into.old) writers) }
+        ensures bytes { into.new ≡ take (length into.old) self.old ++ drop (length self.old)
+            into.old }
     {
         if self.bytes.is_empty() {
             return if writers {
@@ -69,7 +71,7 @@ impl<const MOST: usize> StreamBody<MOST> {
         PipeAnswer::Data(self.bytes.read_into(into))
     }
 
-    /// Writes behind the bytes that wait: all of the bytes where the write is `whole`, and else the
+    /// Writes after the bytes that wait: all of the bytes where the write is `whole`, and else the
     /// first of them, as many as fit; the count says how many went. Where nobody reads any more the
     /// stream is broken. Where a whole write does not fit, or another finds no room at all, it
     /// blocks. Then nothing changes.

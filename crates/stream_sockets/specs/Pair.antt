@@ -1,7 +1,8 @@
 -- Internal: no contract of the headline or of a command stands on it.
 -- What the calls of a pair of sockets leave in it.
 use Rattle.std.specs.Prelude.{ℕ, List, ◌++◌, length, take, drop, if◌then◌else◌}
-use Rattle.sequential_object.specs.Streams.{Half, PairState, Reading, Reads, Ends, NothingYet, Writing, Writes, Breaks, NoRoom, with_waiting}
+use Rattle.sequential_object.specs.Streams.{Half, PairState, Reading, Reads, Ends, NothingYet}
+use Rattle.sequential_object.specs.Streams.{Writing, Writes, Breaks, NoRoom, with_waiting}
 use Rattle.posix_terms.specs.Ends.{peer_of}
 use Rattle.posix_terms.specs.declared.object.Side.{Side}
 
@@ -17,6 +18,8 @@ left_by_write p side (Writes left) = with_waiting p (peer_of side) left
 left_by_write p side Breaks = p
 left_by_write p side NoRoom = p
 
--- what stands in a place of bytes after a read into it: what was read, and behind that what stood there
+-- what stands in a place of bytes after a read into it: what
+-- was read, and after that what stood there
 abbrev pub read_into : Half → List ℕ → List ℕ
-read_into half place = if half.reading_shut then place else take (length place) half.waiting ++ drop (length half.waiting) place
+read_into half place = if half.reading_shut then place else take (length place) half.waiting
+    ++ drop (length half.waiting) place

@@ -1,6 +1,7 @@
 ghost use Rattle.std.specs.Prelude.{◌≡◌, ◌&&◌, not, length, IfOk, if◌then◌else◌};
 ghost use Rattle.posix_terms.specs.declared.limits.TheConstants.Limits as limit;
-ghost use Rattle.sequential_object.specs.Streams.{Reading, Ends, half_shut, new_half, stream_read, stream_write};
+ghost use Rattle.sequential_object.specs.Streams.{Reading, Ends, half_shut, new_half, stream_read};
+ghost use Rattle.sequential_object.specs.Streams.{stream_write};
 ghost use Rattle.pipes.specs.Pipe.{left_by_read, left_by_write, read_answer, write_answer};
 ghost use Rattle.stream_sockets.specs.Pair.{read_into};
 
@@ -22,7 +23,11 @@ impl Model for HalfBody {
 
     ghost Value = { Half };
 
-    ghost view = { λ h. record { waiting = h.waiting; reading_shut = h.reading_shut; writing_shut = h.writing_shut } };
+    ghost view = { λ h. record {
+      waiting = h.waiting;
+      reading_shut = h.reading_shut;
+      writing_shut = h.writing_shut;
+    } };
 }
 
 impl HalfBody {
@@ -46,8 +51,15 @@ impl HalfBody {
 
     // Reads into the head of `into`. `writer` says whether more may come.
     pub fn take(&mut self, into: &mut [u8], writer: bool) -> PipeAnswer
-        ensures answer { result ≡ read_answer (if self.old.reading_shut then Ends else stream_read self.old.waiting (length into.old) writer) }
-        ensures left { self.new ≡ record self.old { waiting = left_by_read self.old.waiting (if self.old.reading_shut then Ends else stream_read self.old.waiting (length into.old) writer) } }
+        ensures answer { result ≡ read_answer
+            (if self.old.reading_shut then Ends else stream_read self.old.waiting (length into.old)
+            writer) }
+        ensures left { self.new ≡ record self.old {
+          waiting =
+              left_by_read self.old.waiting
+              (if self.old.reading_shut then Ends else stream_read self.old.waiting (length into.old)
+              writer);
+        } }
         ensures bytes { into.new ≡ read_into self.old into.old }
     {
         if self.reading_shut {
@@ -56,10 +68,17 @@ impl HalfBody {
         self.waiting.take(into, writer)
     }
 
-    // Takes all of the bytes behind those that wait, where they fit. `reaches` says whether the peer can write.
+    // Takes all of the bytes after those that wait, where they fit. `reaches` says whether the peer can write.
     pub fn put(&mut self, bytes: &[u8], reaches: bool) -> PipeAnswer
-        ensures answer { result ≡ write_answer (length bytes.now) (stream_write limit.PAIR_BYTES self.old.waiting bytes.now (reaches && not self.old.reading_shut)) }
-        ensures left { self.new ≡ record self.old { waiting = left_by_write self.old.waiting (stream_write limit.PAIR_BYTES self.old.waiting bytes.now (reaches && not self.old.reading_shut)) } }
+        ensures answer { result ≡ write_answer (length bytes.now)
+            (stream_write limit.PAIR_BYTES self.old.waiting bytes.now
+            (reaches && not self.old.reading_shut)) }
+        ensures left { self.new ≡ record self.old {
+          waiting =
+              left_by_write self.old.waiting
+              (stream_write limit.PAIR_BYTES self.old.waiting bytes.now
+              (reaches && not self.old.reading_shut));
+        } }
     {
         self.waiting.put(bytes, reaches && !self.reading_shut, true)
     }

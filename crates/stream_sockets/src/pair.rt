@@ -40,8 +40,9 @@ impl PairBody {
     /// ends where reading is shut there, and where nothing waits and the peer has shut writing or is
     /// closed; where nothing waits otherwise it blocks. Then nothing changes.
     pub fn take(&mut self, side: Side, into: &mut [u8], peer_open: bool) -> PipeAnswer
-        ensures answer { result ≡ read_answer (pair_read self.old side (length into.old) peer_open) }
-        ensures left { self.new ≡ left_by_read self.old side (pair_read self.old side (length into.old) peer_open) }
+        ensures reply { result ≡ read_answer (pair_read self.old side (length into.old) peer_open) }
+        ensures left { self.new ≡ left_by_read self.old side
+            (pair_read self.old side (length into.old) peer_open) }
         ensures bytes { into.new ≡ read_into (half_at self.old side) into.old }
     {
         match side {
@@ -60,8 +61,10 @@ impl PairBody {
     /// is shut there, where the peer is closed, and where the peer has shut reading; where they do not fit
     /// it blocks. Then nothing changes.
     pub fn put(&mut self, side: Side, bytes: &[u8], peer_open: bool) -> PipeAnswer
-        ensures answer { result ≡ write_answer (length bytes.now) (pair_write self.old side bytes.now peer_open) }
-        ensures left { self.new ≡ left_by_write self.old side (pair_write self.old side bytes.now peer_open) }
+        ensures answer { result ≡ write_answer (length bytes.now)
+            (pair_write self.old side bytes.now peer_open) }
+        ensures left { self.new ≡ left_by_write self.old side
+            (pair_write self.old side bytes.now peer_open) }
     {
         match side {
             Side::Side0 => {

@@ -3,9 +3,12 @@ use Rattle.std.proofs.lemmas.List.{get_or_default}
 use Rattle.logical_clocks.specs.ThreadClocks.{live_clocks, no_thread, thread_at}
 use Rattle.logical_clocks.specs.TurnOrder.{turn_holder}
 use Rattle.logical_clocks.specs.declared.clocks.ThreadClock.{ThreadClock}
-use Rattle.logical_clocks.proofs.LiveLemmas.{IsFoundBelow, holder_found, next_has_ended, next_is_earlier, next_is_later, none_found}
+use Rattle.logical_clocks.proofs.LiveLemmas.{IsFoundBelow, holder_found, next_has_ended, next_is_earlier, next_is_later}
+use Rattle.logical_clocks.proofs.LiveLemmas.{none_found}
 use Rattle.logical_clocks.proofs.clocks.Clocks.turn_holder.Goals as goal
-use Rattle.logical_clocks.proofs.clocks.Clocks.turn_holder.Goals.{then-thread+then-thread-least, else-thread, else-thread-via-then-thread+else-thread-least, else-thread-via-else-thread}
+use Rattle.logical_clocks.proofs.clocks.Clocks.turn_holder.Goals.{then-thread+then-thread-least, else-thread}
+use Rattle.logical_clocks.proofs.clocks.Clocks.turn_holder.Goals.{else-thread-via-then-thread+else-thread-least}
+use Rattle.logical_clocks.proofs.clocks.Clocks.turn_holder.Goals.{else-thread-via-else-thread}
 
 pub loop-i-init : goal.loop-i-init
 loop-i-init c = none_found c.self.inside.threads.items
@@ -20,13 +23,18 @@ loop-i-preserved c =
     let P : Option ℕ → ℕ → Type 0 = IsFoundBelow clocks (n + 1) in
     elim c.if-thread.branch [
       | then-thread+then-thread-least w ↦
-          kept P (sym w.holder-is) (sym w.least-is) (next_is_earlier clocks n c.loop-i.holder c.loop-i.least t c.loop-i.invariant is w.if-thread.true w.if-thread-least.true)
+          kept P (sym w.holder-is) (sym w.least-is)
+          (next_is_earlier clocks n c.loop-i.holder c.loop-i.least t c.loop-i.invariant is w.if-thread.true
+          w.if-thread-least.true)
       | else-thread w ↦
           elim w.else-thread.branch [
             | else-thread-via-then-thread+else-thread-least v ↦
-                kept P (sym w.holder-is) (sym w.least-is) (next_is_later clocks n c.loop-i.holder c.loop-i.least t c.self.invariant inside c.loop-i.invariant is v.if-thread-least.false)
+                kept P (sym w.holder-is) (sym w.least-is)
+                (next_is_later clocks n c.loop-i.holder c.loop-i.least t c.self.invariant inside c.loop-i.invariant
+                is v.if-thread-least.false)
             | else-thread-via-else-thread v ↦
-                kept P (sym w.holder-is) (sym w.least-is) (next_has_ended clocks n c.loop-i.holder c.loop-i.least t c.loop-i.invariant is v.if-thread.false)
+                kept P (sym w.holder-is) (sym w.least-is)
+                (next_has_ended clocks n c.loop-i.holder c.loop-i.least t c.loop-i.invariant is v.if-thread.false)
           ]
     ]
   where
@@ -37,6 +45,8 @@ pub returns : goal.returns
 returns c =
     let clocks = c.self.inside.threads.items in
     let all : c.loop-i.i ≡ length clocks = search rules in
-    let found : IsFoundBelow clocks (length clocks) c.loop-i.holder c.loop-i.least = subst (λ (n : ℕ). IsFoundBelow clocks n c.loop-i.holder c.loop-i.least) all c.loop-i.invariant in
+    let found : IsFoundBelow clocks (length clocks) c.loop-i.holder c.loop-i.least =
+    subst (λ (n : ℕ). IsFoundBelow clocks n c.loop-i.holder c.loop-i.least) all c.loop-i.invariant in
     let view : clocks ≡ c.args.self.now = c.self.view_is in
-    sym (subst (λ (cs : List ThreadClock). turn_holder (live_clocks cs) ≡ c.loop-i.holder) view (holder_found clocks c.loop-i.holder c.loop-i.least found))
+    sym (subst (λ (cs : List ThreadClock). turn_holder (live_clocks cs) ≡ c.loop-i.holder) view
+    (holder_found clocks c.loop-i.holder c.loop-i.least found))

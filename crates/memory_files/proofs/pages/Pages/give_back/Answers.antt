@@ -11,7 +11,10 @@ unwrap-requires c =
     search rules
 
 pub returns-in-Some-clause-empty : goal.returns-in-Some-clause-empty
-returns-in-Some-clause-empty c = rw c.take.ensures.after (given_at c.self.inside.pool.items c.self.inside.places.items c.args.place)
+returns-in-Some-clause-empty c =
+    rw c.take.ensures.after (given_at c.self.inside.pool.items c.self.inside.places.items c.args.place)
 
 pub returns-in-Some-clause-others : goal.returns-in-Some-clause-others
-returns-in-Some-clause-others c = rw (c.take.ensures.after, ← c.self.view_is) (given_others c.self.inside.pool.items c.self.inside.places.items c.args.place)
+returns-in-Some-clause-others c =
+    rw (c.take.ensures.after, ← c.self.view_is)
+    (given_others c.self.inside.pool.items c.self.inside.places.items c.args.place)
