@@ -16,14 +16,15 @@ pub enough : RunsEnd → (m n : ℕ) (last : Option Reply) (s : ScriptState) →
 unfolding past_works_within
 enough ends zero n last s few many = absurd (omega arith)
 enough ends (suc m) zero last s few many = absurd (omega arith)
-enough ends (suc m) (suc n) last s few many = at (ends last s) (λ less. enough ends m n None (next_of last s).1 (omega arith) (omega arith)) where
-  at : ((next_of last s).0 ≡ step.End) ⊎ (lines_left (next_of last s).1 < lines_left s)
-      → (lines_left (next_of last s).1 < lines_left s
-      → past_works_within m None (next_of last s).1 ≡ past_works_within n None (next_of last s).1)
-      → past_work (next_of last s).0 (next_of last s).1 (past_works_within m None (next_of last s).1)
-      ≡ past_work (next_of last s).0 (next_of last s).1 (past_works_within n None (next_of last s).1)
-  at (inl end) more = rw end refl
-  at (inr less) more = ap (past_work (next_of last s).0 (next_of last s).1) (more less)
+enough ends (suc m) (suc n) last s few many =
+    at (ends last s) (λ less. enough ends m n None (next_of last s).1 (omega arith) (omega arith)) where
+      at : ((next_of last s).0 ≡ step.End) ⊎ (lines_left (next_of last s).1 < lines_left s)
+          → (lines_left (next_of last s).1 < lines_left s
+          → past_works_within m None (next_of last s).1 ≡ past_works_within n None (next_of last s).1)
+          → past_work (next_of last s).0 (next_of last s).1 (past_works_within m None (next_of last s).1)
+          ≡ past_work (next_of last s).0 (next_of last s).1 (past_works_within n None (next_of last s).1)
+      at (inl end) more = rw end refl
+      at (inr less) more = ap (past_work (next_of last s).0 (next_of last s).1) (more less)
 
 -- by the next step
 pub by_step : RunsEnd → (last : Option Reply) (s : ScriptState)

@@ -1,5 +1,6 @@
 -- Bytes that are written in hexadecimal digits are read back.
-use Rattle.std.proofs.Common.{◌≡◌, ap, ℕ, zero, suc, ◌+◌, ◌*◌, ◌/◌, ◌%◌, ◌<◌, ◌==◌, Bool, true, false, not, ◌&&◌, All, List, [], ◌∷◌, length, slice_index, Option, Some, None, Ok, refl, arith}
+use Rattle.std.proofs.Common.{◌≡◌, ap, ℕ, zero, suc, ◌+◌, ◌*◌, ◌/◌, ◌%◌, ◌<◌, ◌==◌, Bool, true, false, not, ◌&&◌, All}
+use Rattle.std.proofs.Common.{List, [], ◌∷◌, length, slice_index, Option, Some, None, Ok, refl, arith}
 use Rattle.std.specs.List.{list_all}
 use Rattle.std.proofs.lemmas.Bool.{eqb-false, eqb-true}
 use Rattle.std.proofs.lemmas.List.Elements.{All-tail, All-head}
@@ -15,10 +16,11 @@ below (suc n) test = test n && below n test
 each_below : (n : ℕ) (test : ℕ → Bool) → below n test ≡ true → (d : ℕ) → d < n → test d ≡ true
 unfolding below
 each_below zero test all d less = absurd (omega arith)
-each_below (suc n) test all d less = at (d == n) refl (each_below n test (both_true (test n) (below n test) all).1 d) where
-  at : (same : Bool) → (d == n) ≡ same → (d < n → test d ≡ true) → test d ≡ true
-  at true same smaller = rw (eqb-true d n same) (both_true (test n) (below n test) all).0
-  at false other smaller = let apart : d ≡ n → ⊥ = eqb-false d n other in smaller (omega arith)
+each_below (suc n) test all d less = at (d == n) refl (each_below n test (both_true (test n) (below n test) all).1 d)
+  where
+    at : (same : Bool) → (d == n) ≡ same → (d < n → test d ≡ true) → test d ≡ true
+    at true same smaller = rw (eqb-true d n same) (both_true (test n) (below n test) all).0
+    at false other smaller = let apart : d ≡ n → ⊥ = eqb-false d n other in smaller (omega arith)
 
 is_value : Option ℕ → ℕ → Bool
 is_value None d = false
@@ -32,7 +34,8 @@ is_value_is (Some v) d same = ap Some (eqb-true v d same)
 -- a sixteenth digit has its value
 digit_back : (d : ℕ) → d < 16 → hex_digit_value (slice_index lower_digits d) ≡ Some d
 unfolding below is_value
-digit_back d less = is_value_is (hex_digit_value (slice_index lower_digits d)) d (each_below 16 (λ d. is_value (hex_digit_value (slice_index lower_digits d)) d) refl d less)
+digit_back d less = is_value_is (hex_digit_value (slice_index lower_digits d)) d
+    (each_below 16 (λ d. is_value (hex_digit_value (slice_index lower_digits d)) d) refl d less)
 
 -- a byte that is no space, no `-` and no `_`
 abbrev pub is_plain : ℕ → Bool

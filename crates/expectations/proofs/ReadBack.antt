@@ -1,5 +1,7 @@
 -- What is written of what is wanted is read back.
-use Rattle.std.proofs.Common.{◌≡◌, ◌∙◌, ap, ℕ, suc, ◌<◌, ◌^◌, ◌==◌, Bool, true, false, not, ◌&&◌, All, List, [], ◌∷◌, codes, bytes_eq, decimal, length, ℤ, pos, negsuc, IfSome, Option, Some, None, refl, arith, inl, inr, lit<}
+use Rattle.std.proofs.Common.{◌≡◌, ◌∙◌, ap, ℕ, suc, ◌<◌, ◌^◌, ◌==◌, Bool, true, false, not, ◌&&◌, All, List, [], ◌∷◌}
+use Rattle.std.proofs.Common.{codes, bytes_eq, decimal, length, ℤ, pos, negsuc, IfSome, Option, Some, None, refl, arith}
+use Rattle.std.proofs.Common.{inl, inr, lit<}
 use Rattle.std.specs.Fmt.{signed_decimal}
 use Rattle.std.specs.List.{AllByRecursion, join_with_byte, list_all}
 use Rattle.std.proofs.lemmas.Bool.{ne_eqb}
@@ -20,7 +22,8 @@ use Rattle.expectations.specs.Words.{data_of, error_of, kind_of, operand, size_o
 use Rattle.expectations.specs.declared.wanted.Wanted.{Wanted}
 use Rattle.expectations.specs.declared.wanted.Wanted.TheVariants as want
 use Rattle.expectations.proofs.HexDigits.{decode_back, hex_back, is_plain}
-use Rattle.expectations.proofs.Numerals.{both_true, decimal_digits, digit_is_not, negative_back, positive_back, size_back}
+use Rattle.expectations.proofs.Numerals.{both_true, decimal_digits, digit_is_not, negative_back, positive_back}
+use Rattle.expectations.proofs.Numerals.{size_back}
 
 abbrev no_space : ℕ → Bool
 no_space b = not (b == 32)
@@ -47,7 +50,10 @@ pieces_joined (word ∷ []) all =
     rw (slice_split_none (λ b. b == 32) word (clean_all word (all.0).clean), some) refl
 pieces_joined (word ∷ next ∷ words) all =
     let some : (length word == 0) ≡ false = ne_eqb (length word) 0 (λ e. omega (arith, (all.0).some)) in
-    rw (slice_split_at (λ b. b == 32) word 32 (join_with_byte 32 (next ∷ words)) (clean_all word (all.0).clean) refl, some)
+    rw (
+      slice_split_at (λ b. b == 32) word 32 (join_with_byte 32 (next ∷ words)) (clean_all word (all.0).clean) refl,
+      some,
+    )
     (ap (λ (ws : List (List ℕ)). word ∷ ws) (pieces_joined (next ∷ words) all.1))
 
 -- the word of an operand that is given: it is not `_`
@@ -79,7 +85,8 @@ plain_not_dash : (w : List ℕ) → list_all is_plain w ≡ true → bytes_eq w 
 plain_not_dash [] plain = refl
 plain_not_dash (b ∷ w) plain =
     let first = both_true (is_plain b) (list_all is_plain w) plain in
-    let other = is_not b 45 (both_true (no_space b) (not (b == 45)) (both_true (no_space b && not (b == 45)) (not (b == 95)) first.0).0).1 in
+    let other = is_not b 45 (both_true (no_space b) (not (b == 45))
+    (both_true (no_space b && not (b == 45)) (not (b == 95)) first.0).0).1 in
     rw other refl
 
 digits_plain : (w : List ℕ) → list_all is_digit w ≡ true → list_all is_plain w ≡ true
@@ -110,16 +117,25 @@ signed_read : (n : ℤ) → IsSigned n → IsRead number_of (signed_decimal n) n
 signed_read (pos n) fits = record { value = positive_back n fits; given = decimal_given n (omega arith) }
 signed_read (negsuc n) fits =
     let digits = decimal_given (suc n) (omega arith) in
-    record { value = negative_back n fits; given = record { word = record { some = omega arith; clean = rw digits.word.clean refl }; given = refl } }
+    record {
+      value = negative_back n fits;
+      given = record { word = record { some = omega arith; clean = rw digits.word.clean refl }; given = refl };
+    }
 
 data_read : (bytes : List ℕ) → All IsByte bytes → IsRead data_of (data_word bytes) bytes
-data_read [] all = record { value = refl; given = record { word = record { some = lit< tt; clean = refl }; given = refl } }
+data_read [] all = record {
+  value = refl;
+  given = record { word = record { some = lit< tt; clean = refl }; given = refl };
+}
 data_read (b ∷ bytes) all =
     let hex = hex_back (b ∷ bytes) all in
     let some : 0 < length (encode_lower (b ∷ bytes)) = rw hex.long (omega arith) in
     let dash = plain_not_dash (encode_lower (b ∷ bytes)) hex.plain in
     let empty : (length (b ∷ bytes) == 0) ≡ false = ne_eqb (suc (length bytes)) 0 (λ e. omega arith) in
-    rw empty (record { value = rw (dash, decode_back (b ∷ bytes) all) refl; given = plain_given (encode_lower (b ∷ bytes)) hex.plain some })
+    rw empty (record {
+      value = rw (dash, decode_back (b ∷ bytes) all) refl;
+      given = plain_given (encode_lower (b ∷ bytes)) hex.plain some;
+    })
 
 kind_small : (kind : ObjectKind) → kind_code kind < 10
 kind_small kind.File = lit< tt
@@ -170,9 +186,11 @@ record IsBack {A : Type 0} (read : List ℕ → Option A) (w : List ℕ) (o : Op
   value : operand read w ≡ Some o
   word : IsWord w
 
-operand_back : {A : Type 0} (read : List ℕ → Option A) (word : A → List ℕ) (o : Option A) → IfSome o (λ a. IsRead read (word a) a) → IsBack read (operand_word word o) o
+operand_back : {A : Type 0} (read : List ℕ → Option A) (word : A → List ℕ) (o : Option A)
+    → IfSome o (λ a. IsRead read (word a) a) → IsBack read (operand_word word o) o
 operand_back read word None given = record { value = refl; word = record { some = lit< tt; clean = refl } }
-operand_back read word (Some a) given = record { value = rw (given.given.given, given.value) refl; word = given.given.word }
+operand_back read word (Some a) given =
+    record { value = rw (given.given.given, given.value) refl; word = given.given.word }
 
 word_ok : (w : List ℕ) → list_all no_space w ≡ true → 0 < length w → IsWord w
 word_ok w clean some = record { some = some; clean = clean }
@@ -182,15 +200,19 @@ for_some P Q f None p = tt
 for_some P Q f (Some a) p = f a p
 
 size_word : (n : Option ℕ) → IfSome n IsSize → IsBack size_of (operand_word decimal n) n
-size_word n values = operand_back size_of decimal n (for_some IsSize (λ n. IsRead size_of (decimal n) n) size_read n values)
+size_word n values = operand_back size_of decimal n
+    (for_some IsSize (λ n. IsRead size_of (decimal n) n) size_read n values)
 
 signed_word : (n : Option ℤ) → IfSome n IsSigned → IsBack number_of (operand_word signed_decimal n) n
-signed_word n values = operand_back number_of signed_decimal n (for_some IsSigned (λ n. IsRead number_of (signed_decimal n) n) signed_read n values)
+signed_word n values = operand_back number_of signed_decimal n
+    (for_some IsSigned (λ n. IsRead number_of (signed_decimal n) n) signed_read n values)
 
 data_back : (bytes : Option (List ℕ)) → IfSome bytes (All IsByte) → IsBack data_of (operand_word data_word bytes) bytes
-data_back bytes values = operand_back data_of data_word bytes (for_some (All IsByte) (λ b. IsRead data_of (data_word b) b) data_read bytes values)
+data_back bytes values = operand_back data_of data_word bytes
+    (for_some (All IsByte) (λ b. IsRead data_of (data_word b) b) data_read bytes values)
 
-kind_back : NumbersLeadBack → (kind : Option ObjectKind) → IsBack kind_of (operand_word (λ kind. decimal (kind_code kind)) kind) kind
+kind_back : NumbersLeadBack → (kind : Option ObjectKind)
+    → IsBack kind_of (operand_word (λ kind. decimal (kind_code kind)) kind) kind
 kind_back numbers kind = operand_back kind_of (λ kind. decimal (kind_code kind)) kind (at kind) where
   at : (kind : Option ObjectKind) → IfSome kind (λ k. IsRead kind_of (decimal (kind_code k)) k)
   at None = tt
@@ -202,28 +224,37 @@ name_back names error = operand_back error_of name_of error (at error) where
   at None = tt
   at (Some error) = name_read names error
 
-pub read_back : NamesLeadBack → NumbersLeadBack → (wanted : Wanted) → HasValues wanted → wanted_of (pieces_of 32 (wanted_text wanted)) ≡ Some wanted
+pub read_back : NamesLeadBack → NumbersLeadBack → (wanted : Wanted) → HasValues wanted
+    → wanted_of (pieces_of 32 (wanted_text wanted)) ≡ Some wanted
 unfolding wanted_words wanted_by
 read_back names numbers (want.Count n) values =
     let one = size_word n values in
-    ap wanted_of (pieces_joined (codes "count" ∷ operand_word decimal n ∷ []) (word_ok (codes "count") refl (lit< tt), (one.word, tt))) ∙ rw one.value refl
+    ap wanted_of (pieces_joined (codes "count" ∷ operand_word decimal n ∷ [])
+    (word_ok (codes "count") refl (lit< tt), (one.word, tt))) ∙ rw one.value refl
 read_back names numbers (want.Data bytes) values =
     let one = data_back bytes values in
-    ap wanted_of (pieces_joined (codes "data" ∷ operand_word data_word bytes ∷ []) (word_ok (codes "data") refl (lit< tt), (one.word, tt))) ∙ rw one.value refl
+    ap wanted_of (pieces_joined (codes "data" ∷ operand_word data_word bytes ∷ [])
+    (word_ok (codes "data") refl (lit< tt), (one.word, tt))) ∙ rw one.value refl
 read_back names numbers (want.Number n) values =
     let one = signed_word n values in
-    ap wanted_of (pieces_joined (codes "number" ∷ operand_word signed_decimal n ∷ []) (word_ok (codes "number") refl (lit< tt), (one.word, tt))) ∙ rw one.value refl
+    ap wanted_of (pieces_joined (codes "number" ∷ operand_word signed_decimal n ∷ [])
+    (word_ok (codes "number") refl (lit< tt), (one.word, tt))) ∙ rw one.value refl
 read_back names numbers (want.Pair first second) values =
     let one = signed_word first values.0 in
     let two = signed_word second values.1 in
-    ap wanted_of (pieces_joined (codes "pair" ∷ operand_word signed_decimal first ∷ operand_word signed_decimal second ∷ []) (word_ok (codes "pair") refl (lit< tt), (one.word, (two.word, tt)))) ∙ rw (one.value, two.value) refl
+    ap wanted_of (pieces_joined (codes "pair" ∷ operand_word signed_decimal first ∷ operand_word signed_decimal second
+    ∷ []) (word_ok (codes "pair") refl (lit< tt), (one.word, (two.word, tt)))) ∙ rw (one.value, two.value) refl
 read_back names numbers (want.Stat kind number links) values =
     let one = kind_back numbers kind in
     let two = size_word number values.0 in
     let three = size_word links values.1 in
-    ap wanted_of (pieces_joined (codes "stat" ∷ operand_word (λ kind. decimal (kind_code kind)) kind ∷ operand_word decimal number ∷ operand_word decimal links ∷ []) (word_ok (codes "stat") refl (lit< tt), (one.word, (two.word, (three.word, tt))))) ∙ rw (one.value, two.value, three.value) refl
+    ap wanted_of (pieces_joined (codes "stat" ∷ operand_word (λ kind. decimal (kind_code kind)) kind
+    ∷ operand_word decimal number ∷ operand_word decimal links ∷ [])
+    (word_ok (codes "stat") refl (lit< tt), (one.word, (two.word, (three.word, tt)))))
+    ∙ rw (one.value, two.value, three.value) refl
 read_back names numbers want.Done values = refl
 read_back names numbers (want.Fail error) values =
     let one = name_back names error in
-    ap wanted_of (pieces_joined (codes "fail" ∷ operand_word name_of error ∷ []) (word_ok (codes "fail") refl (lit< tt), (one.word, tt))) ∙ rw one.value refl
+    ap wanted_of (pieces_joined (codes "fail" ∷ operand_word name_of error ∷ [])
+    (word_ok (codes "fail") refl (lit< tt), (one.word, tt))) ∙ rw one.value refl
 read_back names numbers want.NotFail values = refl

@@ -31,6 +31,7 @@ no_words _ = false
 abbrev pub is_quiet : List ℕ → Bool
 is_quiet text = no_words (words_of text)
 
+-- a line that is counted: one with words
 abbrev pub counts : List ℕ → Bool
 counts text = not (is_quiet text)
 
@@ -39,6 +40,7 @@ abbrev pub call_first : Option (List (List ℕ)) → Bool
 call_first (Some (word ∷ operands)) = is_some (kind_named word)
 call_first _ = false
 
+-- a line whose first word names a call
 abbrev pub is_call : List ℕ → Bool
 is_call text = call_first (words_of text)
 
@@ -93,7 +95,7 @@ pub record IsFirstBad (texts : List (List ℕ)) (k : ℕ) (why : Reason) : Type 
   pub bad : expected_at texts k ≡ Some (Err why)
   pub good : (j : ℕ) → j < k → (other : Reason) → expected_at texts j ≢ Some (Err other)
 
--- why the expectations of a text were not read. Where memory was lacking nothing is said
+-- why the expectations of a text were not read. Where memory ran out nothing is said
 abbrev pub IsFault : List (List ℕ) → ExpectationFault → Type 0
 IsFault texts (fault.Bad line why) = (k : ℕ) × (line ≡ k + 1) × IsFirstBad texts k why
 IsFault texts fault.Memory = Unit {0}

@@ -66,10 +66,11 @@ abbrev pub IsSigned : ℤ → Type 0
 IsSigned (pos n) = n < 2 ^ 63
 IsSigned (negsuc n) = n < 2 ^ 63
 
--- a number of 64 bits without a sign, and a byte
+-- a number of 64 bits without a sign
 abbrev pub IsSize : ℕ → Type 0
 IsSize n = n < 2 ^ 64
 
+-- a number that is a byte
 abbrev pub IsByte : ℕ → Type 0
 IsByte b = b < 256
 

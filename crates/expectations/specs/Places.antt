@@ -71,5 +71,6 @@ next_place_from last s [] = option_map (λ after. after.place) (call_after last 
 next_place_from last s (reply ∷ replies) =
     place_past (call_after last s) (λ after. next_place_from (Some reply) after replies)
 
+-- the place of a script's next call after these replies, if there is one
 abbrev pub next_place : List Line → List Reply → Option ℕ
 next_place script replies = next_place_from None (start_of script) replies

@@ -19,6 +19,7 @@ operand_word word (Some operand) = word operand
 abbrev pub data_word : List ℕ → List ℕ
 data_word bytes = if length bytes == 0 then codes "-" else encode_lower bytes
 
+-- the words that stand for what is expected of a reply
 unfoldable pub wanted_words : Wanted → List (List ℕ)
 wanted_words (want.Count n) = codes "count" ∷ operand_word decimal n ∷ []
 wanted_words (want.Data bytes) = codes "data" ∷ operand_word data_word bytes ∷ []
@@ -32,5 +33,6 @@ wanted_words want.Done = codes "done" ∷ []
 wanted_words (want.Fail error) = codes "fail" ∷ operand_word name_of error ∷ []
 wanted_words want.NotFail = codes "not" ∷ codes "fail" ∷ []
 
+-- what is expected of a reply, in its words, one space apart
 abbrev pub wanted_text : Wanted → List ℕ
 wanted_text wanted = join_with_byte 32 (wanted_words wanted)

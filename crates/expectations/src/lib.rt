@@ -14,8 +14,8 @@
 //! finds the line of each call, and gives the first reply that does not meet an expectation of its
 //! line. [`Wanted::is_met_by`] is the test of one reply; [`Wanted::text`] writes what is wanted.
 //! [`is_cut_off`] follows a script in the same way, up to its end; [`call_places`] gives the places
-//! of its calls, and [`next_call_place`] that of the next. [`bytes_of`] and [`error_named`] read the
-//! words of a transcript that stand for bytes and errors.
+//! of its calls, and [`next_call_place`] that of the next. [`bytes_of`] and [`error_named`] read
+//! the words of a transcript that stand for bytes and errors.
 //!
 //! By the laws each expectation of a script stands for a line that makes a call, each call has the
 //! place of such a line, what is written is read back, and there are no other answers than these.

@@ -36,10 +36,12 @@ fixed_in_call (call.Shutdown descriptor how) = (fixed descriptor, None)
 fixed_in_call (call.TcpAccept descriptor) = (fixed descriptor, None)
 fixed_in_call _ = (None, None)
 
+-- the descriptors that a line's first and second operand name by their numbers
 abbrev pub fixed_descriptors : Line → Option ℤ × Option ℤ
 fixed_descriptors (line.Call l) = fixed_in_call l
 fixed_descriptors _ = (None, None)
 
+-- a descriptor is named there, and by this number
 abbrev pub is_number : ℤ → Option ℤ → Bool
 is_number n None = false
 is_number n (Some m) = int_eq n m

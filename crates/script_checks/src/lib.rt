@@ -4,10 +4,10 @@
 //! where in the line what was [`Expected`] and what was [`Found`]; or the script with its
 //! [`Warning`]s and its lines that do something ([`ActingLine`]), whose words have their columns.
 //! [`shared_descriptors`] gives the descriptors that more than one script names by their numbers,
-//! [`first_use`] where a script does so first. What takes memory fails only for want of it.
+//! [`first_use`] where a script does so first. What takes memory fails only where there is none.
 //!
-//! By the contracts the lines are exactly the bad ones, a label is warned of exactly where no line
-//! jumps to it, and a line exactly where it is not reached. What is said to be expected is tested.
+//! By the contracts the lines are exactly the bad ones, a label is warned of exactly when no line
+//! jumps to it, and a line exactly when it is not reached. What is said to be expected is tested.
 //!
 //! ```rust
 //! use script_checks::{Checked, Expected, Found, Operand, check_text};

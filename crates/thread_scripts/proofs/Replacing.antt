@@ -16,7 +16,8 @@ registers_are_kept (Some b ∷ saved) (r ∷ registers) zero d new h = refl
 registers_are_kept (held ∷ saved) (r ∷ registers) (suc k) d new h =
     ap (λ rest. unwrap_or held r ∷ rest) (registers_are_kept saved registers k d new (omega arith))
 
-pub none_is_replaced : (registers : List (List ℕ)) → registers_before (None ∷ None ∷ None ∷ None ∷ []) registers ≡ registers
+pub none_is_replaced : (registers : List (List ℕ)) → registers_before (None ∷ None ∷ None ∷ None ∷ []) registers
+    ≡ registers
 unfolding registers_before
 none_is_replaced [] = refl
 none_is_replaced (a ∷ []) = refl

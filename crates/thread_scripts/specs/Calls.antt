@@ -1,6 +1,7 @@
 -- Believed: a contract of a command stands on it.
 -- The lines that make a call, by its word and operands.
-use Rattle.std.specs.Prelude.{ℕ, ◌||◌, List, [], ◌∷◌, if◌then◌else◌, ℤ, Option, Some, None, option_map, bytes_eq}
+use Rattle.std.specs.Prelude.{ℕ, ◌||◌, List, [], ◌∷◌, if◌then◌else◌, ℤ, Option, Some, None}
+use Rattle.std.specs.Prelude.{option_map, bytes_eq}
 use Rattle.posix_terms.specs.Calls.{word_of}
 use Rattle.posix_terms.specs.declared.call.Access.{Access}
 use Rattle.posix_terms.specs.declared.call.Call.TheVariants as call
@@ -11,13 +12,15 @@ use Rattle.posix_terms.specs.declared.call.ShutdownHow.{ShutdownHow}
 use Rattle.posix_terms.specs.declared.call.Whence.{Whence}
 use Rattle.thread_scripts.specs.CallLines.{CallLine}
 use Rattle.thread_scripts.specs.Numbers.{byte_register_of, number_of, register_of}
-use Rattle.thread_scripts.specs.Texts.{access_of, bytes_of, known_to_host, no_flags, path_of, shutdown_how_of, whence_of, with_flags}
+use Rattle.thread_scripts.specs.Texts.{access_of, bytes_of, known_to_host, no_flags, path_of}
+use Rattle.thread_scripts.specs.Texts.{shutdown_how_of, whence_of, with_flags}
 use Rattle.thread_scripts.specs.declared.line.Number.{Number}
 use Rattle.thread_scripts.specs.declared.line.Number.TheVariants as number
 use Rattle.thread_scripts.specs.declared.line.Data.{Data}
 use Rattle.thread_scripts.specs.declared.line.Data.TheVariants as bytes
 
 infixl 10 ◌>>=◌
+-- the first operand that cannot be read ends the reading of a line
 abbrev pub ◌>>=◌ : {A B : Type 0} → Option A → (A → Option B) → Option B
 None >>= f = None
 (Some x) >>= f = f x
@@ -27,6 +30,7 @@ abbrev pub register_or_number : Option ℕ → Option ℤ → Option Number
 register_or_number (Some register) value = Some (number.Register register)
 register_or_number None value = option_map number.Value value
 
+-- a word that is a number operand
 unfoldable pub number_operand : List ℕ → Option Number
 number_operand word = register_or_number (register_of word) (number_of word)
 
@@ -35,19 +39,25 @@ abbrev pub register_or_bytes : Option ℕ → Option (List ℕ) → Option Data
 register_or_bytes (Some register) value = Some (bytes.Register register)
 register_or_bytes None value = option_map bytes.Text value
 
+-- a word that is an operand of bytes
 unfoldable pub data_operand : List ℕ → Option Data
 data_operand word = register_or_bytes (byte_register_of word) (bytes_of word)
 
 -- all calls
 abbrev pub kinds : List CallKind
 kinds =
-    kind.Open ∷ kind.Close ∷ kind.Read ∷ kind.Write ∷ kind.Pread ∷ kind.Pwrite ∷ kind.Lseek ∷ kind.Ftruncate ∷ kind.Fstat ∷ kind.Dup ∷ kind.DupFrom ∷ kind.Dup2 ∷ kind.Getfl ∷ kind.Setfl ∷ kind.Link ∷ kind.Unlink ∷ kind.Rename ∷ kind.Mkdir ∷ kind.Rmdir ∷ kind.Pipe ∷ kind.Socketpair ∷ kind.Shutdown ∷ kind.HostOpen ∷ kind.TcpListen ∷ kind.TcpConnect ∷ kind.TcpAccept ∷ []
+    kind.Open ∷ kind.Close ∷ kind.Read ∷ kind.Write ∷ kind.Pread ∷ kind.Pwrite ∷ kind.Lseek
+    ∷ kind.Ftruncate ∷ kind.Fstat ∷ kind.Dup ∷ kind.DupFrom ∷ kind.Dup2 ∷ kind.Getfl
+    ∷ kind.Setfl ∷ kind.Link ∷ kind.Unlink ∷ kind.Rename ∷ kind.Mkdir ∷ kind.Rmdir ∷ kind.Pipe
+    ∷ kind.Socketpair ∷ kind.Shutdown ∷ kind.HostOpen ∷ kind.TcpListen ∷ kind.TcpConnect
+    ∷ kind.TcpAccept ∷ []
 
 -- the first call of these that a word names
 abbrev pub kind_among : List CallKind → List ℕ → Option CallKind
 kind_among [] word = None
 kind_among (k ∷ ks) word = if bytes_eq word (word_of k) then Some k else kind_among ks word
 
+-- the call that a word names
 abbrev pub kind_named : List ℕ → Option CallKind
 kind_named word = kind_among kinds word
 

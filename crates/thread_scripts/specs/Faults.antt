@@ -1,5 +1,6 @@
 -- Believed: a contract of a command stands on it.
--- Why a text is not a script, and what a result says of a meaning. Where memory was lacking it says nothing.
+-- Why a text is not a script, and what a result says of a
+-- meaning. Where memory was lacking it says nothing.
 use Rattle.std.specs.Prelude.{◌≡◌, ℕ, Option, Some, None, Result, Ok, Err}
 use Rattle.thread_scripts.specs.declared.fault.LineFault.{LineFault}
 use Rattle.thread_scripts.specs.declared.fault.LineFault.TheVariants as line_fault

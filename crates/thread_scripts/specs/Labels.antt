@@ -1,6 +1,8 @@
 -- Believed: a contract of a command stands on it.
 -- The labels of a script.
-use Rattle.std.specs.Prelude.{ℕ, ◌+◌, Bool, ◌&&◌, ◌||◌, List, [], ◌∷◌, length, nat_le, if◌then◌else◌, Option, Some, None, option_map, option_and_then, bytes_eq, codes}
+use Rattle.std.specs.Prelude.{ℕ, ◌+◌, Bool, ◌&&◌, ◌||◌, List, [], ◌∷◌, length, nat_le}
+use Rattle.std.specs.Prelude.{if◌then◌else◌, Option, Some, None, option_map, option_and_then}
+use Rattle.std.specs.Prelude.{bytes_eq, codes}
 use Rattle.std.specs.List.{cons_option, list_all}
 use Rattle.thread_scripts.specs.Numbers.{is_digit}
 use Rattle.thread_scripts.specs.Words.{words_of}
@@ -15,7 +17,8 @@ is_name word = nat_le 1 (length word) && nat_le (length word) 14 && list_all is_
 
 -- the name that the words of a line make a label: `label NAME`
 abbrev pub label_in : List (List ℕ) → Option (List ℕ)
-label_in (word ∷ name ∷ []) = if bytes_eq word (codes "label") && is_name name then Some name else None
+label_in (word ∷ name ∷ []) = if bytes_eq word (codes "label") && is_name name then Some name
+    else None
 label_in _ = None
 
 -- how many lines that do something there are up to the end of this one; a bad line counts as one
@@ -34,4 +37,5 @@ labels_from place (text ∷ texts) = cons_option
 -- the place of the first label of this name
 abbrev pub place_of : List ℕ → List (List ℕ × ℕ) → Option ℕ
 place_of name [] = None
-place_of name (label ∷ labels) = if bytes_eq label.0 name then Some label.1 else place_of name labels
+place_of name (label ∷ labels) = if bytes_eq label.0 name then Some label.1
+    else place_of name labels

@@ -1,6 +1,8 @@
 -- Internal: no contract of the headline or of a command stands on it.
 -- What the script language keeps to.
-use Rattle.std.specs.Prelude.{◌≡◌, true, ◌≢◌, ℕ, ◌+◌, ◌<◌, ◌≤◌, ◌↔◌, ◌⊎◌, List, [], ◌∷◌, ◌++◌, codes, length, map, filter_map, slice_get, Option, Some, None, Ok, Err, option_and_then}
+use Rattle.std.specs.Prelude.{◌≡◌, true, ◌≢◌, ℕ, ◌+◌, ◌<◌, ◌≤◌, ◌↔◌, ◌⊎◌, List, [], ◌∷◌, ◌++◌}
+use Rattle.std.specs.Prelude.{codes, length, map, filter_map, slice_get, Option, Some, None, Ok}
+use Rattle.std.specs.Prelude.{Err, option_and_then}
 use Rattle.posix_terms.specs.declared.limits.TheConstants.Limits.{SCRIPT_LINES}
 use Rattle.posix_terms.specs.declared.reply.Reply.{Reply}
 use Rattle.thread_scripts.specs.Faults.{bad_line, too_long}
@@ -26,19 +28,26 @@ pub record AreGood (readings : List (Option (Option Line))) (lines : List Line) 
 
 -- a text is too long where it has too many lines, whatever they are
 abbrev pub TooLongIsCounted : Type 0
-TooLongIsCounted = (text : List ℕ) → (script_of text ≡ Err too_long) ↔ (SCRIPT_LINES < length (lines_of text))
+TooLongIsCounted = (text : List ℕ)
+    → (script_of text ≡ Err too_long) ↔ (SCRIPT_LINES < length (lines_of text))
 
--- the bad line that is told is the first one, counted from 1
+-- the bad line that is reported is the first one, counted from 1
 abbrev pub BadLineIsFirst : Type 0
-BadLineIsFirst = (text : List ℕ) (k : ℕ) → (script_of text ≡ Err (bad_line (k + 1))) ↔ ((length (lines_of text) ≤ SCRIPT_LINES) × IsFirstBad (readings_of (lines_of text)) k)
+BadLineIsFirst = (text : List ℕ) (k : ℕ)
+    → (script_of text ≡ Err (bad_line (k + 1))) ↔ ((length (lines_of text) ≤ SCRIPT_LINES)
+    × IsFirstBad (readings_of (lines_of text)) k)
 
 -- a text is a script exactly where it is not too long and each line is good
 abbrev pub AcceptedExactly : Type 0
-AcceptedExactly = (text : List ℕ) (lines : List Line) → (script_of text ≡ Ok lines) ↔ ((length (lines_of text) ≤ SCRIPT_LINES) × AreGood (readings_of (lines_of text)) lines)
+AcceptedExactly = (text : List ℕ) (lines : List Line)
+    → (script_of text ≡ Ok lines) ↔ ((length (lines_of text) ≤ SCRIPT_LINES)
+    × AreGood (readings_of (lines_of text)) lines)
 
 -- the lines that a script may jump to are labels
 abbrev pub JumpsLeadToLabels : Type 0
-JumpsLeadToLabels = (text : List ℕ) (lines : List Line) (k place : ℕ) → script_of text ≡ Ok lines → option_and_then target_of (slice_get lines k) ≡ Some place → slice_get lines place ≡ Some line.Label
+JumpsLeadToLabels = (text : List ℕ) (lines : List Line) (k place : ℕ) → script_of text ≡ Ok lines
+    → option_and_then target_of (slice_get lines k) ≡ Some place
+    → slice_get lines place ≡ Some line.Label
 
 -- the words of a line that says something
 abbrev pub spoken : Option (List (List ℕ)) → Option (List (List ℕ))
@@ -50,7 +59,8 @@ spoken None = None
 abbrev pub words_read : List (List ℕ) → List (List (List ℕ))
 words_read texts = filter_map (λ text. spoken (words_of text)) texts
 
--- the words that line k was read from end with a name, and the line at this place was read from `label` and that name
+-- the words that line k was read from end with a name, and the line
+-- at this place was read from `label` and that name
 pub record LeadsByName (words : List (List (List ℕ))) (k place : ℕ) : Type 0 where
   pub name : List ℕ
   pub front : List (List ℕ)
@@ -67,11 +77,13 @@ JumpsLeadByName =
 
 -- a script that was read is one by the rules for lines that are made in code
 abbrev pub ReadScriptsKeepRules : Type 0
-ReadScriptsKeepRules = (text : List ℕ) (lines : List Line) → script_of text ≡ Ok lines → is_script lines ≡ true
+ReadScriptsKeepRules = (text : List ℕ) (lines : List Line) → script_of text ≡ Ok lines
+    → is_script lines ≡ true
 
 -- each step but the end executes a line, and so a run of steps ends
 abbrev pub RunsEnd : Type 0
-RunsEnd = (last : Option Reply) (s : ScriptState) → ((next_of last s).0 ≡ step.End) ⊎ (lines_left (next_of last s).1 < lines_left s)
+RunsEnd = (last : Option Reply) (s : ScriptState) → ((next_of last s).0 ≡ step.End)
+    ⊎ (lines_left (next_of last s).1 < lines_left s)
 
 -- the script itself never changes
 abbrev pub ScriptStays : Type 0

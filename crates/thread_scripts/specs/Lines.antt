@@ -1,6 +1,7 @@
 -- Believed: a contract of a command stands on it.
 -- What one line of a script says, given the labels of the text and how many lines lie before it.
-use Rattle.std.specs.Prelude.{ℕ, List, [], ◌∷◌, ◌==◌, if◌then◌else◌, Option, Some, None, option_map, option_and_then, bytes_eq, codes}
+use Rattle.std.specs.Prelude.{ℕ, List, [], ◌∷◌, ◌==◌, if◌then◌else◌, Option, Some, None, option_map}
+use Rattle.std.specs.Prelude.{option_and_then, bytes_eq, codes}
 use Rattle.posix_terms.specs.declared.limits.TheConstants.Limits.{WORK}
 use Rattle.thread_scripts.specs.Calls.{◌>>=◌, call_line, data_operand, kind_named, number_operand}
 use Rattle.thread_scripts.specs.Labels.{place_of}
@@ -103,7 +104,8 @@ line_with labels place (word.Call kind) operands = option_map line.Call (call_li
 -- what words say: nothing where there are none
 abbrev pub words_say : List (List ℕ × ℕ) → ℕ → List (List ℕ) → Option (Option Line)
 words_say labels place [] = Some None
-words_say labels place (word ∷ operands) = option_map Some (option_and_then (λ w. line_with labels place w operands) (word_named word))
+words_say labels place (word ∷ operands) =
+    option_map Some (option_and_then (λ w. line_with labels place w operands) (word_named word))
 
 -- what a line says, if it is good: comments, empty lines and lines of spaces say nothing
 abbrev pub line_of : List (List ℕ × ℕ) → ℕ → List ℕ → Option (Option Line)

@@ -1,6 +1,7 @@
 -- Internal: no contract of the headline or of a command stands on it.
 -- What the lines of a script keep to, also where they were made in code and read from no text.
-use Rattle.std.specs.Prelude.{ℕ, Bool, true, false, ◌&&◌, ◌||◌, not, List, length, nat_le, slice_get, Option, Some, None}
+use Rattle.std.specs.Prelude.{ℕ, Bool, true, false, ◌&&◌, ◌||◌, not, List, length, nat_le}
+use Rattle.std.specs.Prelude.{slice_get, Option, Some, None}
 use Rattle.std.specs.List.{list_all}
 use Rattle.posix_terms.specs.declared.call.Call.TheVariants as call
 use Rattle.posix_terms.specs.declared.limits.TheConstants.Limits.{COUNT, SCRIPT_LINES}
@@ -18,6 +19,7 @@ target_of (line.JumpIfZero register place) = Some place
 target_of (line.JumpIfFailed place) = Some place
 target_of _ = None
 
+-- whether there is a line, and it is that of a label
 abbrev pub is_label : Option Line → Bool
 is_label (Some line.Label) = true
 is_label _ = false
@@ -46,7 +48,8 @@ call_keeps (call.Unlink path) = is_path path
 call_keeps (call.Rename old_path new_path) = is_path old_path && is_path new_path
 call_keeps (call.Mkdir path) = is_path path
 call_keeps (call.Rmdir path) = is_path path
-call_keeps (call.HostOpen path access flags) = is_path path && not (flags.exclusive || flags.nonblock)
+call_keeps (call.HostOpen path access flags) = is_path path
+    && not (flags.exclusive || flags.nonblock)
 call_keeps _ = true
 
 -- the bytes, paths and flags of a line keep to their bounds; a work may be of any length

@@ -1,6 +1,7 @@
 -- Internal: no contract of the headline or of a command stands on it.
 -- A state with what was saved of an earlier one.
-use Rattle.std.specs.Prelude.{ℕ, List, [], ◌∷◌, Option, Some, None, slice_index_or, slice_set, unwrap_or}
+use Rattle.std.specs.Prelude.{ℕ, List, [], ◌∷◌, Option, Some, None, slice_index_or, slice_set}
+use Rattle.std.specs.Prelude.{unwrap_or}
 use Rattle.thread_scripts.specs.declared.state.Saved.{Saved}
 use Rattle.thread_scripts.specs.declared.actor.ScriptState.{ScriptState}
 
@@ -16,6 +17,7 @@ abbrev pub also_replaced : ℕ → List ℕ → List (Option (List ℕ)) → Lis
 also_replaced register held replaced =
     slice_set replaced register (Some (unwrap_or (slice_index_or replaced register None) held))
 
+-- the state with what was saved, and with the byte registers that were replaced as they were
 abbrev pub with_saved : ScriptState → Saved → List (Option (List ℕ)) → ScriptState
 with_saved s saved replaced = record s {
   place = saved.place;

@@ -15,14 +15,15 @@ reply_to (step.Call c) [] = None
 reply_to (step.Work n) replies = None
 reply_to step.End replies = None
 
--- and those behind it
+-- and those after it
 abbrev pub replies_behind : Step → List Reply → List Reply
 replies_behind (step.Call c) (r ∷ replies) = replies
 replies_behind (step.Call c) [] = []
 replies_behind (step.Work n) replies = replies
 replies_behind step.End replies = replies
 
--- a script that has come this far, and the last reply: it is there just where the last step was a call
+-- a script that has come this far, and the last reply: it is
+-- there exactly when the last step was a call
 pub record Reached : Type 0 where
   pub last : Option Reply
   pub state : ScriptState
@@ -30,8 +31,11 @@ pub record Reached : Type 0 where
 -- how far a script has come after these steps, with the replies to them
 abbrev pub reached_after : Reached → List Step → List Reply → Reached
 reached_after at [] replies = at
-reached_after at (x ∷ asked) replies = reached_after (record { last = reply_to x replies; state = (next_of at.last at.state).1 }) asked (replies_behind x replies)
+reached_after at (x ∷ asked) replies =
+    reached_after (record { last = reply_to x replies; state = (next_of at.last at.state).1 }) asked
+    (replies_behind x replies)
 
+-- the next step of a script that has come this far
 abbrev pub next_at : Reached → Step
 next_at at = (next_of at.last at.state).0
 
@@ -45,10 +49,12 @@ scripted script asked replies = Some (next_at (reached_after (at_start script) a
 
 -- it never lacks its next step
 abbrev pub NeverLacks : Type 0
-NeverLacks = (script : List Line) (asked : List Step) (replies : List Reply) → (x : Step) × (scripted script asked replies ≡ Some x)
+NeverLacks = (script : List Line) (asked : List Step) (replies : List Reply) → (x : Step)
+    × (scripted script asked replies ≡ Some x)
 
--- and it comes to its end: behind so many steps it gives nothing else, whatever it is told
+-- and it comes to its end: after so many steps it gives nothing else, whatever the replies are
 abbrev pub ScriptsEnd : Type 0
 ScriptsEnd =
     (script : List Line)
-    → (bound : ℕ) × ((asked : List Step) (replies : List Reply) (x : Step) → scripted script asked replies ≡ Some x → (x ≡ step.End) ⊎ (length asked < bound))
+    → (bound : ℕ) × ((asked : List Step) (replies : List Reply) (x : Step)
+    → scripted script asked replies ≡ Some x → (x ≡ step.End) ⊎ (length asked < bound))

@@ -1,6 +1,7 @@
 -- Believed: a contract of a command stands on it.
 -- Byte texts, paths and the other words of a call's line.
-use Rattle.std.specs.Prelude.{ℕ, Bool, false, true, ◌&&◌, ◌||◌, List, [], ◌∷◌, length, nat_le, ◌==◌, if◌then◌else◌, Option, Some, None, option_and_then, bytes_eq, codes}
+use Rattle.std.specs.Prelude.{ℕ, Bool, false, true, ◌&&◌, ◌||◌, List, [], ◌∷◌, length, nat_le, ◌==◌}
+use Rattle.std.specs.Prelude.{if◌then◌else◌, Option, Some, None, option_and_then, bytes_eq, codes}
 use Rattle.std.specs.List.{list_all}
 use Rattle.std.specs.Result.{result_ok}
 use Rattle.hex.specs.Hex.{decode_of}
@@ -34,6 +35,7 @@ path_of word =
     else if list_all is_graphic word then Some word
     else None
 
+-- what a file is opened for
 abbrev pub access_of : List ℕ → Option Access
 access_of word =
     if bytes_eq word (codes "r") then Some access.ReadOnly
@@ -41,6 +43,7 @@ access_of word =
     else if bytes_eq word (codes "rw") then Some access.ReadWrite
     else None
 
+-- where an offset counts from
 abbrev pub whence_of : List ℕ → Option Whence
 whence_of word =
     if bytes_eq word (codes "set") then Some whence.Set
@@ -56,8 +59,15 @@ shutdown_how_of word =
     else if bytes_eq word (codes "both") then Some how.Both
     else None
 
+-- no flag is set
 abbrev pub no_flags : OpenFlags
-no_flags = record { create = false; exclusive = false; truncate = false; append = false; nonblock = false }
+no_flags = record {
+  create = false;
+  exclusive = false;
+  truncate = false;
+  append = false;
+  nonblock = false;
+}
 
 -- the flags, if this one was not among them before
 abbrev pub once : Bool → OpenFlags → Option OpenFlags
@@ -68,16 +78,20 @@ once false flags = Some flags
 abbrev pub with_flag : OpenFlags → List ℕ → Option OpenFlags
 with_flag flags word =
     if bytes_eq word (codes "create") then once flags.create (record flags { create = true })
-    else if bytes_eq word (codes "excl") then once flags.exclusive (record flags { exclusive = true })
-    else if bytes_eq word (codes "trunc") then once flags.truncate (record flags { truncate = true })
+    else if bytes_eq word (codes "excl")
+    then once flags.exclusive (record flags { exclusive = true })
+    else if bytes_eq word (codes "trunc")
+    then once flags.truncate (record flags { truncate = true })
     else if bytes_eq word (codes "append") then once flags.append (record flags { append = true })
-    else if bytes_eq word (codes "nonblock") then once flags.nonblock (record flags { nonblock = true })
+    else if bytes_eq word (codes "nonblock")
+    then once flags.nonblock (record flags { nonblock = true })
     else None
 
 -- the flags and those that the words name: any order, each at most once
 abbrev pub with_flags : OpenFlags → List (List ℕ) → Option OpenFlags
 with_flags flags [] = Some flags
-with_flags flags (word ∷ words) = option_and_then (λ more. with_flags more words) (with_flag flags word)
+with_flags flags (word ∷ words) =
+    option_and_then (λ more. with_flags more words) (with_flag flags word)
 
 -- the flags of `host_open`: not those that only `open` has
 abbrev pub known_to_host : OpenFlags → Option OpenFlags

@@ -31,11 +31,14 @@ pub trait Actor {
     /// The next step, given the reply to the last one if that was a call. Without memory for it
     /// the actor is as it was. Each step but the end leaves fewer lines to be executed.
     fn next(&mut self, last: Option<&Reply>) -> Result<Step, Memory>
-        ensures step { IfOk result (λ step. step ≡ (next_of (option_copied last.entry) (state self.old)).0) }
-        ensures after { OnOk result (state self.new ≡ (next_of (option_copied last.entry) (state self.old)).1) }
+        ensures step { IfOk result (λ step. step
+            ≡ (next_of (option_copied last.entry) (state self.old)).0) }
+        ensures after { OnOk result (state self.new
+            ≡ (next_of (option_copied last.entry) (state self.old)).1) }
         ensures same { OnErr result (state self.new ≡ state self.old) }
         ensures script { (state self.new).script ≡ (state self.old).script }
-        ensures ends { IfOk result (λ step. (step ≡ Step.End) ⊎ (lines_left (state self.new) < lines_left (state self.old))) };
+        ensures ends { IfOk result (λ step. (step ≡ Step.End)
+            ⊎ (lines_left (state self.new) < lines_left (state self.old))) };
 }
 
 /// An actor that follows a script. Contracts see the state of the script.
@@ -71,14 +74,16 @@ impl ScriptActor {
         self.state.place
     }
 
-    /// The next step, as [`Actor::next`] gives it, for a caller that gives up where there is no memory for it: the reply goes into
+    /// The next step, as [`Actor::next`] gives it, for a caller that gives
+    /// up where there is no memory for it: the reply goes into
     /// the registers uncopied and nothing is saved, so the actor is of no more use then.
     #[tactic(auto, using(crate::proofs::Ending::next_ends, crate::proofs::Ending::next_script))]
     pub fn next_unsaved(&mut self, last: Option<Reply>) -> Result<Step, Memory>
         ensures step { IfOk result (λ step. step ≡ (next_of last self.old).0) }
         ensures after { OnOk result (self.new ≡ (next_of last self.old).1) }
         ensures script { OnOk result (self.new.script ≡ self.old.script) }
-        ensures ends { IfOk result (λ step. (step ≡ Step.End) ⊎ (lines_left self.new < lines_left self.old)) }
+        ensures ends { IfOk result (λ step. (step ≡ Step.End)
+            ⊎ (lines_left self.new < lines_left self.old)) }
     {
         let Ok(step) = self.state.advance(last, &mut Replaced::none()) else {
             return Err(Memory);

@@ -4,7 +4,7 @@ use crate::actor::Actor;
 use crate::fault::Memory;
 use posix_terms::{Reply, Step};
 
-/// An actor of any type, behind a box: so actors of several types stand in one list, and each runs in a
+/// An actor of any type, in a box: so actors of several types stand in one list, and each runs in a
 /// thread of its own.
 pub type BoxedActor = Box<dyn Actor + Send + Drop>;
 

@@ -1,5 +1,9 @@
 ghost use Rattle.std.specs.Prelude.{◌≡◌, map};
-ghost use Rattle.thread_scripts.specs.Calls.{without_operands, bytes_at, call_line, data_operand, kind_among, kind_named, number_and_bytes, number_and_flags, number_and_how, number_operand, one_number, one_path, opening, seek, status_flags, three_numbers, two_numbers, two_paths};
+ghost use Rattle.thread_scripts.specs.Calls.{without_operands, bytes_at, call_line, data_operand};
+ghost use Rattle.thread_scripts.specs.Calls.{kind_among, kind_named, number_and_bytes};
+ghost use Rattle.thread_scripts.specs.Calls.{number_and_flags, number_and_how, number_operand};
+ghost use Rattle.thread_scripts.specs.Calls.{one_number, one_path, opening, seek, status_flags};
+ghost use Rattle.thread_scripts.specs.Calls.{three_numbers, two_numbers, two_paths};
 ghost use Rattle.thread_scripts.specs.Faults.{Reads};
 
 use crate::fault::LineFault;

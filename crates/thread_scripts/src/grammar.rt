@@ -13,7 +13,9 @@ use std::alloc::Global;
 /// The script of these lines.
 fn read_lines(alloc: Global, labels: &[Label], split: &[SplitLine]) -> Result<Script, ScriptFault>
     requires { length split.now ≤ Limits.SCRIPT_LINES }
-    ensures { Parses result (gathered 1 (readings_from (map (λ l. (l.name.now, l.place)) labels.now) 0 (map (λ l. l.text.now) split.now))) }
+    ensures { Parses result (gathered 1
+        (readings_from (map (λ l. (l.name.now, l.place)) labels.now) 0
+        (map (λ l. l.text.now) split.now))) }
 {
     let mut lines = Vec::new(alloc);
     let mut place = 0;

@@ -1,6 +1,7 @@
 ghost use Rattle.std.specs.Prelude.{◌≡◌, ◌+◌, ◌^◌, ◌<◌, IfOk, map, option_copied, option_map};
 ghost use Rattle.std.specs.List.{list_all};
-ghost use Rattle.thread_scripts.specs.Labels.{is_name, is_name_byte, label_in, labels_from, place_after, place_of};
+ghost use Rattle.thread_scripts.specs.Labels.{is_name, is_name_byte, label_in, labels_from};
+ghost use Rattle.thread_scripts.specs.Labels.{place_after, place_of};
 
 use crate::words::SplitLine;
 use std::alloc::{AllocError, Global};
@@ -56,7 +57,8 @@ pub(crate) fn labels<'a>(
     alloc: Global,
     lines: &[SplitLine<'a>],
 ) -> Result<Vec<Label<'a>>, AllocError>
-    ensures { IfOk result (λ labels. map (λ l. (l.name.now, l.place)) labels.items ≡ labels_from 0 (map (λ l. l.text.now) lines.now)) }
+    ensures { IfOk result (λ labels. map (λ l. (l.name.now, l.place)) labels.items
+        ≡ labels_from 0 (map (λ l. l.text.now) lines.now)) }
 {
     let mut labels = Vec::new(alloc);
     let mut place = 0;

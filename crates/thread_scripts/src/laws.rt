@@ -1,4 +1,6 @@
-ghost use Rattle.thread_scripts.specs.Laws.{AcceptedExactly, BadLineIsFirst, JumpsLeadByName, JumpsLeadToLabels, ReadScriptsKeepRules, RunsEnd, ScriptStays, TooLongIsCounted};
+ghost use Rattle.thread_scripts.specs.Laws.{AcceptedExactly, BadLineIsFirst, JumpsLeadByName};
+ghost use Rattle.thread_scripts.specs.Laws.{JumpsLeadToLabels, ReadScriptsKeepRules, RunsEnd};
+ghost use Rattle.thread_scripts.specs.Laws.{ScriptStays, TooLongIsCounted};
 ghost use Rattle.thread_scripts.specs.ScriptPrograms.{NeverLacks, ScriptsEnd};
 
 /// The law of texts that are too long: those with more than 1,000 lines, whatever these are.
@@ -6,7 +8,7 @@ pub fn too_long_is_counted()
     ensures { TooLongIsCounted }
 {}
 
-/// The law of bad lines: the one that is told is the first one.
+/// The law of bad lines: the one that is reported is the first one.
 pub fn bad_line_is_the_first()
     ensures { BadLineIsFirst }
 {}
@@ -17,7 +19,8 @@ pub fn accepted_exactly()
     ensures { AcceptedExactly }
 {}
 
-/// The law of jumps: in a script that was read, each leads to a label's line (`labels`), which is that of the label that the jump's own line
+/// The law of jumps: in a script that was read, each leads to a label's line
+/// (`labels`), which is that of the label that the jump's own line
 /// names (`named`).
 pub fn jumps_lead_to_labels()
     ensures labels { JumpsLeadToLabels }
@@ -39,8 +42,10 @@ pub fn script_stays()
     ensures { ScriptStays }
 {}
 
-/// The law of scripts as programs, which give a next step after any steps and replies. A script never lacks it: behind its last line it goes
-/// on ending (`next`). And each comes to its end: behind so many steps it gives nothing else, whatever the replies (`end`).
+/// The law of scripts as programs, which give a next step after any steps and
+/// replies. A script never lacks it: after its last line it goes
+/// on ending (`next`). And each comes to its end: after so many steps
+/// it gives nothing else, whatever the replies (`end`).
 pub fn programs_of_scripts()
     ensures next { NeverLacks }
     ensures end { ScriptsEnd }

@@ -72,7 +72,7 @@ pub enum Line {
     Call(CallLine),
     /// Work of so many units of the thread's clock. In a text at most 1,000,000, in code of any length.
     Work(u64),
-    /// The thread ends. Behind the last line it ends as well.
+    /// The thread ends. After the last line it ends as well.
     End,
     Set {
         register: NumberRegister,

@@ -1,6 +1,9 @@
 ghost use Rattle.std.specs.Prelude.{◌≡◌, map, option_and_then, option_map};
 ghost use Rattle.thread_scripts.specs.Faults.{Reads};
-ghost use Rattle.thread_scripts.specs.Lines.{add_line, end_line, jump_if_failed_line, jump_if_zero_line, jump_line, label_line, line_with, set_bytes_line, set_line, word_named, words_say, work_line};
+ghost use Rattle.thread_scripts.specs.Lines.{add_line, end_line, jump_if_failed_line};
+ghost use Rattle.thread_scripts.specs.Lines.{jump_if_zero_line, jump_line, label_line, line_with};
+ghost use Rattle.thread_scripts.specs.Lines.{set_bytes_line, set_line, word_named, words_say};
+ghost use Rattle.thread_scripts.specs.Lines.{work_line};
 
 use crate::calls::{data_operand, kind_named, number_operand, read_call};
 use crate::fault::LineFault;
@@ -104,7 +107,8 @@ fn read_set_bytes(alloc: Global, operands: &[&[u8]]) -> Result<Line, LineFault>
 }
 
 fn read_label(labels: &[Label], place: usize, operands: &[&[u8]]) -> Result<Line, LineFault>
-    ensures { Reads result (label_line (map (λ l. (l.name.now, l.place)) labels.now) place (map (λ w. w.now) operands.now)) }
+    ensures { Reads result (label_line (map (λ l. (l.name.now, l.place)) labels.now) place
+        (map (λ w. w.now) operands.now)) }
 {
     let [name] = operands else {
         return Err(LineFault::Bad);
@@ -117,7 +121,8 @@ fn read_label(labels: &[Label], place: usize, operands: &[&[u8]]) -> Result<Line
 }
 
 fn read_jump(labels: &[Label], operands: &[&[u8]]) -> Result<Line, LineFault>
-    ensures { Reads result (jump_line (map (λ l. (l.name.now, l.place)) labels.now) (map (λ w. w.now) operands.now)) }
+    ensures { Reads result (jump_line (map (λ l. (l.name.now, l.place)) labels.now)
+        (map (λ w. w.now) operands.now)) }
 {
     let [name] = operands else {
         return Err(LineFault::Bad);
@@ -127,7 +132,8 @@ fn read_jump(labels: &[Label], operands: &[&[u8]]) -> Result<Line, LineFault>
 }
 
 fn read_jump_if_zero(labels: &[Label], operands: &[&[u8]]) -> Result<Line, LineFault>
-    ensures { Reads result (jump_if_zero_line (map (λ l. (l.name.now, l.place)) labels.now) (map (λ w. w.now) operands.now)) }
+    ensures { Reads result (jump_if_zero_line (map (λ l. (l.name.now, l.place)) labels.now)
+        (map (λ w. w.now) operands.now)) }
 {
     let [word, name] = operands else {
         return Err(LineFault::Bad);
@@ -138,7 +144,8 @@ fn read_jump_if_zero(labels: &[Label], operands: &[&[u8]]) -> Result<Line, LineF
 }
 
 fn read_jump_if_failed(labels: &[Label], operands: &[&[u8]]) -> Result<Line, LineFault>
-    ensures { Reads result (jump_if_failed_line (map (λ l. (l.name.now, l.place)) labels.now) (map (λ w. w.now) operands.now)) }
+    ensures { Reads result (jump_if_failed_line (map (λ l. (l.name.now, l.place)) labels.now)
+        (map (λ w. w.now) operands.now)) }
 {
     let [name] = operands else {
         return Err(LineFault::Bad);
@@ -156,7 +163,8 @@ fn read_operands(
     word: Word,
     operands: &[&[u8]],
 ) -> Result<Line, LineFault>
-    ensures { Reads result (line_with (map (λ l. (l.name.now, l.place)) labels.now) place word (map (λ w. w.now) operands.now)) }
+    ensures { Reads result (line_with (map (λ l. (l.name.now, l.place)) labels.now) place word
+        (map (λ w. w.now) operands.now)) }
 {
     match word {
         Word::Work => read_work(operands),
@@ -179,7 +187,8 @@ fn read_words(
     place: usize,
     words: &[&[u8]],
 ) -> Result<Option<Line>, LineFault>
-    ensures { Reads result (words_say (map (λ l. (l.name.now, l.place)) labels.now) place (map (λ w. w.now) words.now)) }
+    ensures { Reads result (words_say (map (λ l. (l.name.now, l.place)) labels.now) place
+        (map (λ w. w.now) words.now)) }
 {
     let [first, operands @ ..] = words else {
         return Ok(None);
@@ -196,7 +205,9 @@ pub(crate) fn read_line(
     place: usize,
     words: &Option<Vec<&[u8]>>,
 ) -> Result<Option<Line>, LineFault>
-    ensures { Reads result (option_and_then (words_say (map (λ l. (l.name.now, l.place)) labels.now) place) (option_map (λ v. map (λ w. w.now) v.items) words.now)) }
+    ensures { Reads result (option_and_then
+        (words_say (map (λ l. (l.name.now, l.place)) labels.now) place)
+        (option_map (λ v. map (λ w. w.now) v.items) words.now)) }
 {
     match words {
         None => Err(LineFault::Bad),

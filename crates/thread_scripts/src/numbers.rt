@@ -1,5 +1,6 @@
 ghost use Rattle.std.specs.Prelude.{◌≡◌, ◌≤◌, ◌^◌, IfSome};
-ghost use Rattle.thread_scripts.specs.Numbers.{byte_register_of, index_of, natural_of, number_of, register_named, register_of, up_to};
+ghost use Rattle.thread_scripts.specs.Numbers.{byte_register_of, index_of, natural_of, number_of};
+ghost use Rattle.thread_scripts.specs.Numbers.{register_named, register_of, up_to};
 
 use crate::line::{ByteRegister, NumberRegister};
 

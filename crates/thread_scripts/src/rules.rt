@@ -1,6 +1,7 @@
 ghost use Rattle.std.specs.Prelude.{◌≡◌};
 ghost use Rattle.std.specs.List.{list_all};
-ghost use Rattle.thread_scripts.specs.Rules.{call_keeps, is_path, is_script, is_short, keeps_rules, leads_to_label, line_keeps, target_of};
+ghost use Rattle.thread_scripts.specs.Rules.{call_keeps, is_path, is_script, is_short, keeps_rules};
+ghost use Rattle.thread_scripts.specs.Rules.{leads_to_label, line_keeps, target_of};
 
 use crate::line::{CallLine, Data, Line};
 use posix_terms::{Call, Limits, SharedBytes};

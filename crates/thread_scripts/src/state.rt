@@ -74,7 +74,9 @@ impl Replaced {
 }
 
 impl ScriptState {
-    ghost use Rattle.thread_scripts.specs.Meaning.{action_of, call_of, data_value, lines_left, next_of, next_within, number_value, performed, start_of, step_given, stored};
+    ghost use Rattle.thread_scripts.specs.Meaning.{action_of, call_of, data_value, lines_left};
+    ghost use Rattle.thread_scripts.specs.Meaning.{next_of, next_within, number_value, performed};
+    ghost use Rattle.thread_scripts.specs.Meaning.{start_of, step_given, stored};
     ghost use Rattle.std.specs.Prelude.{None, slice_set};
     ghost use Rattle.thread_scripts.specs.Saving.{registers_before, with_saved};
 
@@ -292,7 +294,10 @@ impl ScriptState {
 
     /// Replaces a byte register, and keeps what it held.
     fn replace(&mut self, register: ByteRegister, bytes: Bytes, replaced: &mut Replaced)
-        ensures state { self.new ≡ record self.old { bytes = slice_set self.old.bytes register bytes } }
+        ensures state { self.new ≡ record self.old {
+          bytes =
+              slice_set self.old.bytes register bytes;
+        } }
         ensures replaced { registers_before replaced.new.bytes self.new.bytes
             ≡ registers_before replaced.old.bytes self.old.bytes }
     {
@@ -328,7 +333,8 @@ impl ScriptState {
     /// Executes lines up to one that gives a step. Without memory the state is some lines further.
     #[tactic(auto, using(crate::proofs::Executing::next_none, crate::proofs::Executing::next_step, crate::proofs::Executing::next_more, crate::proofs::Executing::within_end, crate::proofs::Executing::performed_script))]
     fn run(&mut self, failed: bool, replaced: &mut Replaced) -> Result<Step, AllocError>
-        ensures ok { IfOk result (λ step. (step, self.new) ≡ next_within failed (lines_left self.old) self.old) }
+        ensures ok { IfOk result (λ step. (step, self.new)
+            ≡ next_within failed (lines_left self.old) self.old) }
         ensures replaced { registers_before replaced.new.bytes self.new.bytes
             ≡ registers_before replaced.old.bytes self.old.bytes }
         ensures script { self.new.script ≡ self.old.script }

@@ -1,6 +1,8 @@
 ghost use Rattle.std.specs.Prelude.{◌≡◌, map};
 ghost use Rattle.std.specs.List.{list_all};
-ghost use Rattle.thread_scripts.specs.Texts.{access_of, bytes_of, is_graphic, known_to_host, no_flags, once, path_of, shutdown_how_of, whence_of, with_flag, with_flags};
+ghost use Rattle.thread_scripts.specs.Texts.{access_of, bytes_of, is_graphic, known_to_host};
+ghost use Rattle.thread_scripts.specs.Texts.{no_flags, once, path_of, shutdown_how_of, whence_of};
+ghost use Rattle.thread_scripts.specs.Texts.{with_flag, with_flags};
 ghost use Rattle.thread_scripts.specs.Faults.{Reads};
 
 use crate::fault::LineFault;

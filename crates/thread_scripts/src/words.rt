@@ -22,7 +22,8 @@ fn is_comment(text: &[u8]) -> bool
 /// The words of a line, if it is ASCII text; a comment has none.
 #[tactic(auto, unfolding(crate::specs::Words::words_of))]
 pub fn line_words<'a>(alloc: Global, text: &'a [u8]) -> Result<Option<Vec<&'a [u8]>>, AllocError>
-    ensures { IfOk result (λ words. option_map (λ v. map (λ w. w.now) v.items) words ≡ words_of text.now) }
+    ensures { IfOk result (λ words. option_map (λ v. map (λ w. w.now) v.items) words
+        ≡ words_of text.now) }
 {
     if !is_ascii(text) {
         return Ok(None);
@@ -46,7 +47,7 @@ pub(crate) fn split_lines<'a>(
     alloc: Global,
     texts: &[&'a [u8]],
 ) -> Result<Vec<SplitLine<'a>>, AllocError>
-    ensures { IfOk result (λ lines. map (λ l. l.text.now) lines.items ≡ map (λ t. t.now) texts.now) }
+    ensures { IfOk result (λ ls. map (λ l. l.text.now) ls.items ≡ map (λ t. t.now) texts.now) }
 {
     let mut lines = Vec::new(alloc);
     for i in 0..texts.len() {

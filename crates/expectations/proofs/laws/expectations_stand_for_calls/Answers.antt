@@ -10,4 +10,5 @@ pub returns : goal.returns
 returns c = λ text script expectations is are.
     let texts = lines_of text in
     let good = ((c.accepted_exactly.ensures text script).0 is).1 in
-    all_given (IsOfCall texts script) (expected_at texts) (range_with_len 0 (length texts)) expectations are (λ k e here. of_call texts script k e good here)
+    all_given (IsOfCall texts script) (expected_at texts) (range_with_len 0 (length texts)) expectations are
+    (λ k e here. of_call texts script k e good here)

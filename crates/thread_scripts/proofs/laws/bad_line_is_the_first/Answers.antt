@@ -10,7 +10,8 @@ pub returns : goal.returns
 unfolding script_of
 returns c = λ text k.
     let texts = lines_of text in
-    let both = within SCRIPT_LINES (length texts) (gathered 1 (readings_of texts)) (Err (bad_line (k + 1))) (λ e. cc) in (
+    let read = gathered 1 (readings_of texts) in
+    let both = within SCRIPT_LINES (length texts) read (Err (bad_line (k + 1))) (λ e. cc) in (
       λ e. let (short, told) = both.0 e in (short, told_first_at (readings_of texts) k told),
       λ first. both.1 (first.0, first_told_at (readings_of texts) k first.1),
     )

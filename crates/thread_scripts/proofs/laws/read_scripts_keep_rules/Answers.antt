@@ -12,7 +12,9 @@ pub returns : goal.returns
 unfolding script_of
 returns c = λ text lines e.
     let texts = lines_of text in
-    let (short, read) = (within SCRIPT_LINES (length texts) (gathered 1 (readings_of texts)) (Ok lines) (λ e. cc)).0 e in
+    let (short, read) = (within SCRIPT_LINES (length texts) (gathered 1 (readings_of texts)) (Ok lines) (λ e. cc)).0
+    e in
     let (keep, few) = all_keep (labels_from 0 texts) texts 0 1 lines read in
     let few_enough : length lines ≤ SCRIPT_LINES = omega arith in
-    both _ _ (grind (arith, few_enough)) (with_jumps lines lines keep (λ k p t. (jumps_to_label texts lines k p read t).0))
+    both _ _ (grind (arith, few_enough))
+    (with_jumps lines lines keep (λ k p t. (jumps_to_label texts lines k p read t).0))

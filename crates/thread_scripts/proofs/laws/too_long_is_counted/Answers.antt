@@ -7,4 +7,5 @@ use Rattle.thread_scripts.proofs.laws.too_long_is_counted.Goals as goal
 
 pub returns : goal.returns
 unfolding script_of
-returns c = λ text. counted SCRIPT_LINES (length (lines_of text)) (gathered 1 (readings_of (lines_of text))) (never_too_long 1 (readings_of (lines_of text)))
+returns c = λ text. counted SCRIPT_LINES (length (lines_of text)) (gathered 1 (readings_of (lines_of text)))
+    (never_too_long 1 (readings_of (lines_of text)))
