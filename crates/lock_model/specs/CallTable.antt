@@ -8,7 +8,8 @@ use Rattle.posix_terms.specs.Calls.{Call}
 use Rattle.posix_terms.specs.declared.outcome.Given.{Given}
 use Rattle.sequential_object.specs.Step.{Carried}
 
--- what a call that takes an object does with it: it acts inside, or goes outside through a door, or does so and keeps the table to its answer
+-- what a call that takes an object does with it: it acts inside, or goes
+-- outside through a door, or does so and keeps the table to its answer
 pub data Way : Type 0 where
   Inside : Way
   Door : Way
@@ -19,24 +20,29 @@ pub data Plan : Type 0 where
   No_object : Plan
   Object : (number : ℕ) → (way : Way) → Plan
 
+-- a call planned so takes the lock of an object
 abbrev pub has_object : Plan → Bool
 has_object No_object = false
 has_object (Object number way) = true
 
+-- in this way a call keeps the table to its answer
 abbrev pub way_keeps : Way → Bool
 way_keeps Keeps_table = true
 way_keeps Inside = false
 way_keeps Door = false
 
+-- a call planned so takes an object and keeps the table to its answer
 abbrev pub keeps_table : Plan → Bool
 keeps_table No_object = false
 keeps_table (Object number way) = way_keeps way
 
+-- in this way a call goes outside
 abbrev pub way_goes : Way → Bool
 way_goes Inside = false
 way_goes Door = true
 way_goes Keeps_table = true
 
+-- a call planned so goes outside
 abbrev pub goes_outside : Plan → Bool
 goes_outside No_object = false
 goes_outside (Object number way) = way_goes way

@@ -43,41 +43,58 @@ PlainLeads = (setup : Setup) (first : State) (n : ℕ) → LeadsTo setup first (
 
 -- they lead to a state that arises
 abbrev pub PlainArises : Type 0
-PlainArises = (setup : Setup) (threads objects : ℕ) (w : World) (n : ℕ) → Arises setup (start threads objects w) (plain_run setup n (start threads objects w))
+PlainArises = (setup : Setup) (threads objects : ℕ) (w : World) (n : ℕ)
+    → Arises setup (start threads objects w) (plain_run setup n (start threads objects w))
 
 -- of as many threads
 abbrev pub PlainCount : Type 0
-PlainCount = (setup : Setup) (first : State) (n : ℕ) → length (plain_run setup n first).threads ≡ length first.threads
+PlainCount = (setup : Setup) (first : State) (n : ℕ)
+    → length (plain_run setup n first).threads ≡ length first.threads
 
 -- what came is only added to
 abbrev pub CameGrows : Type 0
-CameGrows = (setup : Setup) (first : State) (n m i : ℕ) → IsPrefixOf (thread_of (plain_run setup n first) i).came (thread_of (plain_run setup (n + m) first) i).came
+CameGrows = (setup : Setup) (first : State) (n m i : ℕ)
+    → IsPrefixOf (thread_of (plain_run setup n first) i).came
+    (thread_of (plain_run setup (n + m) first) i).came
 
--- a thread that was outside is there still, or the outcome that came next for it answers what it asked
+-- a thread that was outside is there still, or the outcome
+-- that came next for it answers what it asked
 abbrev pub StaysOrFits : Setup → Job → Thread → Thread → Type 0
-StaysOrFits setup job t u = (u ≡ t) ⊎ ((o : Given) × (slice_get u.came (length t.came) ≡ Some o) × (fits_job setup.calls job o ≡ true))
+StaysOrFits setup job t u = (u ≡ t)
+    ⊎ ((o : Given) × (slice_get u.came (length t.came) ≡ Some o)
+    × (fits_job setup.calls job o ≡ true))
 
+-- in the plain run a thread that is outside stays so until an outcome comes that answers it
 abbrev pub OutsideStays : Type 0
 OutsideStays =
-    (setup : Setup) (first : State) (n m i : ℕ) (job : Job) → (thread_of (plain_run setup n first) i).phase ≡ Outside job
-    → StaysOrFits setup job (thread_of (plain_run setup n first) i) (thread_of (plain_run setup (n + m) first) i)
+    (setup : Setup) (first : State) (n m i : ℕ) (job : Job)
+    → (thread_of (plain_run setup n first) i).phase ≡ Outside job
+    → StaysOrFits setup job (thread_of (plain_run setup n first) i)
+    (thread_of (plain_run setup (n + m) first) i)
 
 -- what came for a thread are the outcomes of its rows
 abbrev pub CameIsRows : Type 0
-CameIsRows = (setup : Setup) (threads objects : ℕ) (w : World) (s : State) → Arises setup (start threads objects w) s → (i : ℕ) → (thread_of s i).came ≡ outcomes_of i s.rows
+CameIsRows = (setup : Setup) (threads objects : ℕ) (w : World) (s : State)
+    → Arises setup (start threads objects w) s → (i : ℕ)
+    → (thread_of s i).came ≡ outcomes_of i s.rows
 
 -- and the replies that it got are those of its rows
 abbrev pub RepliesAreRows : Type 0
-RepliesAreRows = (setup : Setup) (threads objects : ℕ) (w : World) (s : State) → Arises setup (start threads objects w) s → (i : ℕ) → (thread_of s i).replies ≡ replies_of i s.rows
+RepliesAreRows = (setup : Setup) (threads objects : ℕ) (w : World) (s : State)
+    → Arises setup (start threads objects w) s → (i : ℕ)
+    → (thread_of s i).replies ≡ replies_of i s.rows
 
 -- a thread that is outside has room for an outcome
 abbrev pub RoomOutside : Type 0
 RoomOutside =
-    (setup : Setup) (threads objects : ℕ) (w : World) (s : State) → Arises setup (start threads objects w) s
-    → (i : ℕ) (job : Job) → (thread_of s i).phase ≡ Outside job → nat_lt (length (thread_of s i).came) setup.limits.outcome_limit ≡ true
+    (setup : Setup) (threads objects : ℕ) (w : World) (s : State)
+    → Arises setup (start threads objects w) s
+    → (i : ℕ) (job : Job) → (thread_of s i).phase ≡ Outside job
+    → nat_lt (length (thread_of s i).came) setup.limits.outcome_limit ≡ true
 
 -- an outcome comes in the event of a thread that is outside alone, and for it alone
 abbrev pub CameOutside : Type 0
 CameOutside =
-    (setup : Setup) (s : State) (e : Event) (k : ℕ) → (e ≡ Advances k → (job : Job) → (thread_of s k).phase ≡ Outside job → ⊥)
+    (setup : Setup) (s : State) (e : Event) (k : ℕ)
+    → (e ≡ Advances k → (job : Job) → (thread_of s k).phase ≡ Outside job → ⊥)
     → (thread_of (happens setup e s) k).came ≡ (thread_of s k).came

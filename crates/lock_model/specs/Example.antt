@@ -1,5 +1,6 @@
 -- Internal: no contract of the headline or of a command stands on it.
--- Setups for runs worked out by hand. Whatever the world, all calls take the same locks and give the same answer.
+-- Setups for runs worked out by hand. Whatever the world, all
+-- calls take the same locks and give the same answer.
 use Rattle.std.specs.Prelude.{ℕ, ◌^◌, List, [], ◌∷◌, map, Option, true}
 use Rattle.lock_model.specs.CallTable.{CallTable, Plan}
 use Rattle.sequential_object.specs.declared.turn_end.TurnEnd.{TurnEnd}
@@ -30,6 +31,7 @@ pub record Words : Type 0 where
   pub carried : Carried
   pub query : Option Query
 
+-- calls that all take these locks and give this answer, and leave the world as it is
 abbrev pub alike : Words → Plan → TurnEnd → CallTable
 alike x plan a =
     record {
@@ -60,27 +62,35 @@ setting x plan a limit steps =
 
 -- each thread makes one call
 abbrev pub one_call : Words → Plan → Setup
-one_call x plan = setting x plan (turn_end.Reply x.reply) (2 ^ 62) (step.Call x.call ∷ step.End ∷ [])
+one_call x plan = setting x plan (turn_end.Reply x.reply) (2 ^ 62)
+    (step.Call x.call ∷ step.End ∷ [])
 
 -- each thread makes three
 abbrev pub three_calls : Words → Plan → Setup
-three_calls x plan = setting x plan (turn_end.Reply x.reply) (2 ^ 62) (step.Call x.call ∷ step.Call x.call ∷ step.Call x.call ∷ step.End ∷ [])
+three_calls x plan = setting x plan (turn_end.Reply x.reply) (2 ^ 62)
+    (step.Call x.call ∷ step.Call x.call ∷ step.Call x.call ∷ step.End ∷ [])
 
 -- each thread makes one call, which is blocked at every turn; the clocks end at 10
 abbrev pub blocked_call : Words → Setup
-blocked_call x = setting x (Object 0 Inside) (turn_end.Blocked x.carried) 10 (step.Call x.call ∷ step.End ∷ [])
+blocked_call x = setting x (Object 0 Inside) (turn_end.Blocked x.carried) 10
+    (step.Call x.call ∷ step.End ∷ [])
 
+-- the turns of the rows, in their order
 abbrev pub turns : List Row → List Turn
 turns rows = map (λ (r : Row). r.turn) rows
 
+-- the turn of this thread at this clock
 abbrev pub turn : ℕ → ℕ → Turn
 turn clock thread = record { clock = clock; thread = thread }
 
+-- the row of a transcript in which the call has its reply, at this turn
 abbrev pub replied_at : Words → Turn → TranscriptRow
 replied_at x t = record { call = x.call; turn = t; reply = x.reply }
 
+-- two threads at their start, with one object to lock
 abbrev pub two : Words → State
 two x = start 2 1 x.world
 
+-- one thread at its start, with one object to lock
 abbrev pub alone : Words → State
 alone x = start 1 1 x.world

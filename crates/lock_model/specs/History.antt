@@ -1,6 +1,7 @@
 -- Believed: a contract of the headline stands on it.
 -- When rows are the beginning of others.
-use Rattle.std.specs.Prelude.{◌≡◌, ℕ, List, [], ◌∷◌, ◌++◌, Option, Some, None, false, is_none, if◌then◌else◌, ◌==◌}
+use Rattle.std.specs.Prelude.{◌≡◌, ℕ, List, [], ◌∷◌, ◌++◌, Option, Some, None, false, is_none}
+use Rattle.std.specs.Prelude.{if◌then◌else◌, ◌==◌}
 use Rattle.lock_model.specs.State.{Row}
 
 -- what is not there yet agrees with anything
@@ -16,11 +17,13 @@ pub record RowAgrees (r q : Row) : Type 0 where
   pub answer : Agrees r.answer q.answer
   pub closed : is_none r.answer ≡ false → q ≡ r
 
+-- the first rows are the beginning of the second, up to outcomes and answers yet to come
 abbrev pub IsBeginning : List Row → List Row → Type 0
 IsBeginning [] ys = Unit {0}
 IsBeginning (x ∷ xs) [] = ⊥
 IsBeginning (x ∷ xs) (y ∷ ys) = RowAgrees x y × IsBeginning xs ys
 
+-- the first list is a prefix of the second
 abbrev pub IsPrefixOf : {A : Type 0} → List A → List A → Type 0
 IsPrefixOf {A} xs ys = (rest : List A) × (xs ++ rest ≡ ys)
 

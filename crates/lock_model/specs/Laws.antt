@@ -1,7 +1,8 @@
 -- Internal: no contract of the headline or of a command stands on it.
 -- The laws of the lock machine.
 use Rattle.posix_terms.specs.declared.outcome.Given.{Given}
-use Rattle.std.specs.Prelude.{◌≡◌, ℕ, suc, ◌<◌, ◌⊎◌, ◌↔◌, List, get_or, Option, Some, None, true, false, [], ◌∷◌}
+use Rattle.std.specs.Prelude.{◌≡◌, ℕ, suc, ◌<◌, ◌⊎◌, ◌↔◌, List, get_or, Option, Some, None, true}
+use Rattle.std.specs.Prelude.{false, [], ◌∷◌}
 use Rattle.lock_model.specs.Held.{AreHeld, HaveAsked, HavePlans, HaveRows}
 use Rattle.lock_model.specs.History.{IsBeginning, IsPrefixOf, rows_of}
 use Rattle.lock_model.specs.Legal.{IsLegalHistory}
@@ -79,46 +80,65 @@ StuckLaw =
 
 -- ## Turns
 
+-- no two threads have the turn at once
 abbrev pub OneTurn : Type 0
-OneTurn = (clocks : List (Option ℕ)) (i j : ℕ) → has_turn clocks i ≡ true → has_turn clocks j ≡ true → i ≡ j
+OneTurn = (clocks : List (Option ℕ)) (i j : ℕ) → has_turn clocks i ≡ true → has_turn clocks j ≡ true
+    → i ≡ j
 
+-- a thread is the holder of the turn exactly when it has the turn
 abbrev pub HolderHasTurn : Type 0
-HolderHasTurn = (clocks : List (Option ℕ)) (i : ℕ) → (turn_holder clocks ≡ Some i) ↔ (has_turn clocks i ≡ true)
+HolderHasTurn = (clocks : List (Option ℕ)) (i : ℕ)
+    → (turn_holder clocks ≡ Some i) ↔ (has_turn clocks i ≡ true)
 
 -- where any thread is live, some thread has the turn
 abbrev pub SomeTurn : Type 0
-SomeTurn = (clocks : List (Option ℕ)) (i clock : ℕ) → get_or clocks i None ≡ Some clock → (k : ℕ) × (turn_holder clocks ≡ Some k)
+SomeTurn = (clocks : List (Option ℕ)) (i clock : ℕ) → get_or clocks i None ≡ Some clock → (k : ℕ)
+    × (turn_holder clocks ≡ Some k)
 
+-- all threads have ended, or some thread has the turn
 abbrev pub EndedOrTurn : Type 0
 EndedOrTurn = (s : State) → HaveEnded s ⊎ ((i : ℕ) × (turn_holder (live_clocks s) ≡ Some i))
 
 -- ## Ends of plain runs
 
+-- the plain run has one end at most
 abbrev pub UniqueEnd : Type 0
-UniqueEnd = (setup : Setup) (first last other : State) → EndsIn setup first last → EndsIn setup first other → last ≡ other
+UniqueEnd = (setup : Setup) (first last other : State) → EndsIn setup first last
+    → EndsIn setup first other → last ≡ other
 
+-- the plain run comes to an end where the programs do
 abbrev pub SomeEnd : Type 0
-SomeEnd = (setup : Setup) (first : State) → Finite setup.supply → (last : State) × EndsIn setup first last
+SomeEnd = (setup : Setup) (first : State) → Finite setup.supply → (last : State)
+    × EndsIn setup first last
 
 -- where it is over, nothing can happen at all
 abbrev pub OverLaw : Type 0
 OverLaw = (setup : Setup) (s : State) → IsOver setup s → (e : Event) → is_allowed setup e s ≡ false
 
+-- a plain run that is over ends in the state where it is
 abbrev pub EndsHere : Type 0
 EndsHere = (setup : Setup) (s : State) → IsOver setup s → EndsIn setup s s
 
+-- the plain run from before its next event ends where the one from after that event ends
 abbrev pub EndsNext : Type 0
-EndsNext = (setup : Setup) (s last : State) (e : Event) → next_event setup s ≡ Some e → EndsIn setup (happens setup e s) last → EndsIn setup s last
+EndsNext = (setup : Setup) (s last : State) (e : Event) → next_event setup s ≡ Some e
+    → EndsIn setup (happens setup e s) last → EndsIn setup s last
 
+-- after one event more the plain run is where its next event leads
 abbrev pub OneEventMore : Type 0
-OneEventMore = (setup : Setup) (first s : State) (n : ℕ) (e : Event) → plain_run setup n first ≡ s → next_event setup s ≡ Some e → plain_run setup (suc n) first ≡ happens setup e s
+OneEventMore = (setup : Setup) (first s : State) (n : ℕ) (e : Event) → plain_run setup n first ≡ s
+    → next_event setup s ≡ Some e → plain_run setup (suc n) first ≡ happens setup e s
 
+-- the plain run is a run that leads to its end
 abbrev pub PlainIsRun : Type 0
-PlainIsRun = (setup : Setup) (first last : State) → EndsIn setup first last → LeadsTo setup first last
+PlainIsRun = (setup : Setup) (first last : State) → EndsIn setup first last
+    → LeadsTo setup first last
 
 -- no run goes on for ever: some number falls at each event
 abbrev pub EachEventLowers : Type 0
-EachEventLowers = (setup : Setup) → Finite setup.supply → (measure : State → ℕ) × ((s : State) (e : Event) → is_allowed setup e s ≡ true → measure (happens setup e s) < measure s)
+EachEventLowers = (setup : Setup) → Finite setup.supply → (measure : State → ℕ)
+    × ((s : State) (e : Event) → is_allowed setup e s ≡ true
+    → measure (happens setup e s) < measure s)
 
 -- lists of steps are finite
 abbrev pub OwnFinite : Type 0
@@ -126,54 +146,78 @@ OwnFinite = (s : State) → Finite (own s)
 
 -- ## Histories
 
+-- at every moment of every run the history is legal
 abbrev pub LegalLaw : Type 0
-LegalLaw = (setup : Setup) (threads objects : ℕ) (w : World) (events : List Event) → IsLegalHistory setup.calls w (run setup events (start threads objects w)).rows
+LegalLaw = (setup : Setup) (threads objects : ℕ) (w : World) (events : List Event)
+    → IsLegalHistory setup.calls w (run setup events (start threads objects w)).rows
 
+-- at every moment of every run the granted turns rise
 abbrev pub RisingLaw : Type 0
-RisingLaw = (setup : Setup) (threads objects : ℕ) (w : World) (events : List Event) → IsRising (run setup events (start threads objects w)).rows
+RisingLaw = (setup : Setup) (threads objects : ℕ) (w : World) (events : List Event)
+    → IsRising (run setup events (start threads objects w)).rows
 
 -- ## States that arise
 
+-- the start arises
 abbrev pub ArisesAtStart : Type 0
-ArisesAtStart = (setup : Setup) (threads objects : ℕ) (w : World) → Arises setup (start threads objects w) (start threads objects w)
+ArisesAtStart = (setup : Setup) (threads objects : ℕ) (w : World)
+    → Arises setup (start threads objects w) (start threads objects w)
 
 -- whatever programs and outcomes the setup supplies
 abbrev pub ArisesByEvent : Type 0
-ArisesByEvent = (setup : Setup) (first s : State) (e : Event) → Arises setup first s → Arises setup first (happens setup e s)
+ArisesByEvent = (setup : Setup) (first s : State) (e : Event) → Arises setup first s
+    → Arises setup first (happens setup e s)
 
+-- the state to which a run leads arises
 abbrev pub ArisesByRun : Type 0
-ArisesByRun = (setup : Setup) (threads objects : ℕ) (w : World) (events : List Event) → Arises setup (start threads objects w) (run setup events (start threads objects w))
+ArisesByRun = (setup : Setup) (threads objects : ℕ) (w : World) (events : List Event)
+    → Arises setup (start threads objects w) (run setup events (start threads objects w))
 
 -- the threads of a run follow their programs
 abbrev pub RunFollows : Type 0
-RunFollows = (setup : Setup) (threads objects : ℕ) (w : World) (events : List Event) → Follows setup.supply (run setup events (start threads objects w))
+RunFollows = (setup : Setup) (threads objects : ℕ) (w : World) (events : List Event)
+    → Follows setup.supply (run setup events (start threads objects w))
 
+-- the history of a state that arises is legal
 abbrev pub LegalOfArisen : Type 0
-LegalOfArisen = (setup : Setup) (threads objects : ℕ) (w : World) (s : State) → Arises setup (start threads objects w) s → IsLegalHistory setup.calls w s.rows
+LegalOfArisen = (setup : Setup) (threads objects : ℕ) (w : World) (s : State)
+    → Arises setup (start threads objects w) s → IsLegalHistory setup.calls w s.rows
 
+-- in a state that arises the granted turns rise
 abbrev pub RisingOfArisen : Type 0
-RisingOfArisen = (setup : Setup) (threads objects : ℕ) (w : World) (s : State) → Arises setup (start threads objects w) s → IsRising s.rows
+RisingOfArisen = (setup : Setup) (threads objects : ℕ) (w : World) (s : State)
+    → Arises setup (start threads objects w) s → IsRising s.rows
 
+-- in a state that arises each lock is held by the thread whose phase says so
 abbrev pub LocksOfArisen : Type 0
-LocksOfArisen = (setup : Setup) (threads objects : ℕ) (w : World) (s : State) → Arises setup (start threads objects w) s → AreHeld s
+LocksOfArisen = (setup : Setup) (threads objects : ℕ) (w : World) (s : State)
+    → Arises setup (start threads objects w) s → AreHeld s
 
+-- in a state that arises each call was planned in the world that it found
 abbrev pub PlansOfArisen : Type 0
-PlansOfArisen = (setup : Setup) (threads objects : ℕ) (w : World) (s : State) → Arises setup (start threads objects w) s → HavePlans setup.calls s
+PlansOfArisen = (setup : Setup) (threads objects : ℕ) (w : World) (s : State)
+    → Arises setup (start threads objects w) s → HavePlans setup.calls s
 
+-- in a state that arises a thread in a granted call has one row without an answer
 abbrev pub RowsOfArisen : Type 0
-RowsOfArisen = (setup : Setup) (threads objects : ℕ) (w : World) (s : State) → Arises setup (start threads objects w) s → HaveRows s
+RowsOfArisen = (setup : Setup) (threads objects : ℕ) (w : World) (s : State)
+    → Arises setup (start threads objects w) s → HaveRows s
 
+-- in a state that arises each thread asked last what its phase says
 abbrev pub StepsOfArisen : Type 0
-StepsOfArisen = (setup : Setup) (threads objects : ℕ) (w : World) (s : State) → Arises setup (start threads objects w) s → HaveAsked s
+StepsOfArisen = (setup : Setup) (threads objects : ℕ) (w : World) (s : State)
+    → Arises setup (start threads objects w) s → HaveAsked s
 
 -- the outcome of a row has the clock of its turn
 abbrev pub IsDated : Row → Type 0
 IsDated r = (o : Given) → r.outcome ≡ Some o → o.clock ≡ Some r.turn.clock
 
+-- the outcome of each row has the clock of its turn
 abbrev pub AreDated : List Row → Type 0
 AreDated [] = Unit {0}
 AreDated (r ∷ rs) = IsDated r × AreDated rs
 
+-- in a state that arises the outcome of each row has the clock of its turn
 abbrev pub DatedOfArisen : Type 0
 DatedOfArisen =
     (setup : Setup) (threads objects : ℕ) (w : World) (s : State)

@@ -1,6 +1,8 @@
 -- Internal: no contract of the headline or of a command stands on it.
--- A history is legal: each answer is the one that the calls before it, in the order of the rows, lead to.
-use Rattle.std.specs.Prelude.{◌≡◌, ℕ, suc, List, [], ◌∷◌, Option, Some, None, Bool, true, false, is_none, is_some, if◌then◌else◌, ◌==◌}
+-- A history is legal: each answer is the one that the calls
+-- before it, in the order of the rows, lead to.
+use Rattle.std.specs.Prelude.{◌≡◌, ℕ, suc, List, [], ◌∷◌, Option, Some, None, Bool, true, false}
+use Rattle.std.specs.Prelude.{is_none, is_some, if◌then◌else◌, ◌==◌}
 use Rattle.lock_model.specs.CallTable.{CallTable, goes_outside, keeps_table}
 use Rattle.sequential_object.specs.declared.turn_end.TurnEnd.{TurnEnd}
 use Rattle.sequential_object.specs.declared.turn_end.TurnEnd.TheVariants as turn_end
@@ -20,7 +22,8 @@ carried_after calls b (Some (turn_end.Reply reply)) = calls.nothing_carried
 
 -- what each thread carries after a row
 abbrev pub handed_on : CallTable → (ℕ → Carried) → Row → ℕ → Carried
-handed_on calls carried r i = if r.turn.thread == i then carried_after calls (carried i) r.answer else carried i
+handed_on calls carried r i = if r.turn.thread == i then carried_after calls (carried i) r.answer
+    else carried i
 
 -- the world after a call with this outcome
 abbrev pub changed : CallTable → World → Call → Carried → Option Given → Bool → World
@@ -43,15 +46,19 @@ abbrev pub completed : Bool → Option Given → Option Given → Option Given
 completed true o chosen = first_of o chosen
 completed false o chosen = o
 
--- each row in turn, from this world, with these outcomes chosen by place for the rows that need one and have none
+-- each row in turn, from this world, with these outcomes chosen
+-- by place for the rows that need one and have none
 abbrev pub IsLegal : CallTable → (ℕ → Option Given) → ℕ → World → (ℕ → Carried) → List Row → Type 0
 IsLegal calls chosen k w carried [] = Unit {0}
 IsLegal calls chosen k w carried (r ∷ rs) =
     let b = carried r.turn.thread in
     let plan = calls.plan w r.call b in
     IsRight calls w b r
-    × IsLegal calls chosen (suc k) (changed calls w r.call b (completed (goes_outside plan) r.outcome (chosen k)) (keeps_table plan)) (handed_on calls carried r) rs
+    × IsLegal calls chosen (suc k)
+    (changed calls w r.call b (completed (goes_outside plan) r.outcome (chosen k))
+    (keeps_table plan)) (handed_on calls carried r) rs
 
 -- whatever outcomes the rows that need one and have none will get
 abbrev pub IsLegalHistory : CallTable → World → List Row → Type 0
-IsLegalHistory calls w rows = (chosen : ℕ → Option Given) → IsLegal calls chosen 0 w (λ i. calls.nothing_carried) rows
+IsLegalHistory calls w rows = (chosen : ℕ → Option Given)
+    → IsLegal calls chosen 0 w (λ i. calls.nothing_carried) rows

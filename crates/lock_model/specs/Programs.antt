@@ -6,7 +6,8 @@ use Rattle.posix_terms.specs.declared.reply.Reply.{Reply}
 use Rattle.posix_terms.specs.declared.step.Step.{Step}
 use Rattle.posix_terms.specs.declared.step.Step.TheVariants as step
 
--- the next step, after the steps asked so far and the replies so far. It may depend on the replies, as a script's does
+-- the next step, after the steps asked so far and the replies so
+-- far. It may depend on the replies, as a script's does
 abbrev pub Program : Type 0
 Program = List Step → List Reply → Option Step
 
@@ -22,4 +23,5 @@ pub record Supply : Type 0 where
 -- each program comes to its end: past the bound it asks for nothing but that
 pub record Finite (given : Supply) : Type 0 where
   pub bound : ℕ → ℕ
-  pub ends : (i : ℕ) (asked : List Step) (replies : List Reply) (x : Step) → given.next i asked replies ≡ Some x → (x ≡ step.End) ⊎ (length asked < bound i)
+  pub ends : (i : ℕ) (asked : List Step) (replies : List Reply) (x : Step)
+      → given.next i asked replies ≡ Some x → (x ≡ step.End) ⊎ (length asked < bound i)

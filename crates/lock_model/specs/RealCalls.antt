@@ -23,11 +23,13 @@ abbrev pub plan_of : Way → Option ℕ → Plan
 plan_of way None = No_object
 plan_of way (Some number) = Object number way
 
+-- what each call locks, changes, asks outside and answers, by the sequential object
 abbrev pub real_calls : Settings → CallTable
 real_calls settings =
     record {
       nothing_carried = nothing_carried;
-      plan = λ w c b. plan_of (way_of (is_some (asks w.object c b)) (locked.keeps_table c)) (numbered w (locked_object w.object c b));
+      plan = λ w c b. plan_of (way_of (is_some (asks w.object c b)) (locked.keeps_table c))
+          (numbered w (locked_object w.object c b));
       -- whatever the outcome: it frees the table before it goes outside
       change = λ w c b. world_with w (step settings w.object c None b).after;
       kept_change = λ w c b o. world_with w (step settings w.object c (Some o.outcome) b).after;
@@ -36,5 +38,10 @@ real_calls settings =
       answer = λ w c o b. answer_in (step settings w.object c (outcome_in o) b);
     }
 
+-- the limits of real runs: what going outside costs is a setting
 abbrev pub real_limits : Settings → Limits
-real_limits settings = record { door_cost = settings.door_cost; clock_limit = 2 ^ 62; outcome_limit = 2 ^ 27 }
+real_limits settings = record {
+  door_cost = settings.door_cost;
+  clock_limit = 2 ^ 62;
+  outcome_limit = 2 ^ 27;
+}

@@ -15,26 +15,39 @@ use Rattle.lock_model.specs.Runs.{Arises, run}
 use Rattle.lock_model.specs.Schedule.{EndsIn}
 use Rattle.lock_model.specs.State.{State, start}
 
+-- the setup of the real calls, with these settings, steps and outcomes
 abbrev pub real_setup : Settings → Supply → Setup
-real_setup settings supply = record { calls = real_calls settings; limits = real_limits settings; supply = supply }
+real_setup settings supply = record {
+  calls = real_calls settings;
+  limits = real_limits settings;
+  supply = supply;
+}
 
 -- so many threads, with nothing open, only the root, and a free lock for each object number
 abbrev pub real_start : ℕ → State
 real_start threads = start threads limit.OBJECTS first_world
 
+-- the state of so many threads after these events of the real calls
 abbrev pub real_run : Settings → Supply → ℕ → List Event → State
-real_run settings supply threads events = run (real_setup settings supply) events (real_start threads)
+real_run settings supply threads events =
+    run (real_setup settings supply) events (real_start threads)
 
--- whatever the order of events: the sequential object, given the calls in the order of the rows, gives each answer that a thread got
+-- whatever the order of events: the sequential object, given the calls in
+-- the order of the rows, gives each answer that a thread got
 abbrev pub RealLegal : Type 0
-RealLegal = (settings : Settings) (supply : Supply) (threads : ℕ) (events : List Event) → posix.IsLegal settings (map shown (real_run settings supply threads events).rows)
+RealLegal = (settings : Settings) (supply : Supply) (threads : ℕ) (events : List Event)
+    → posix.IsLegal settings (map shown (real_run settings supply threads events).rows)
 
+-- the same of each state that arises
 abbrev pub RealLegalOfArisen : Type 0
-RealLegalOfArisen = (settings : Settings) (supply : Supply) (threads : ℕ) (s : State) → Arises (real_setup settings supply) (real_start threads) s → posix.IsLegal settings (map shown s.rows)
+RealLegalOfArisen = (settings : Settings) (supply : Supply) (threads : ℕ) (s : State)
+    → Arises (real_setup settings supply) (real_start threads) s
+    → posix.IsLegal settings (map shown s.rows)
 
 -- in the order of the turns
 abbrev pub RealRising : Type 0
-RealRising = (settings : Settings) (supply : Supply) (threads : ℕ) (events : List Event) → IsRising (real_run settings supply threads events).rows
+RealRising = (settings : Settings) (supply : Supply) (threads : ℕ) (events : List Event)
+    → IsRising (real_run settings supply threads events).rows
 
 -- and each thread sees a beginning of what it sees in the plain run
 abbrev pub RealPrefix : Type 0
@@ -45,4 +58,5 @@ RealPrefix =
 
 -- which comes to an end, where the programs do
 abbrev pub RealEnd : Type 0
-RealEnd = (settings : Settings) (supply : Supply) (threads : ℕ) → Finite supply → (last : State) × EndsIn (real_setup settings supply) (real_start threads) last
+RealEnd = (settings : Settings) (supply : Supply) (threads : ℕ) → Finite supply → (last : State)
+    × EndsIn (real_setup settings supply) (real_start threads) last

@@ -9,11 +9,17 @@ use Rattle.sequential_object.specs.declared.turn_end.TurnEnd.TheVariants as turn
 use Rattle.sequential_object.specs.Answers.{outcome_in}
 use Rattle.lock_model.specs.State.{Row}
 
+-- an answer as a history has it: the reply, or that the call is made again
 abbrev pub shown_answer : Option TurnEnd → Option posix.Answer
 shown_answer None = None
 shown_answer (Some (turn_end.Reply reply)) = Some (answer.Reply reply)
 shown_answer (Some (turn_end.Blocked carried)) = Some answer.Again
 
--- what a run tells of a row: not what the thread carries from a blocked turn
+-- what a history shows of a row: not what the thread carries from a blocked turn
 abbrev pub shown : Row → HistoryRow
-shown r = record { call = r.call; turn = r.turn; outcome = outcome_in r.outcome; answer = shown_answer r.answer }
+shown r = record {
+  call = r.call;
+  turn = r.turn;
+  outcome = outcome_in r.outcome;
+  answer = shown_answer r.answer;
+}

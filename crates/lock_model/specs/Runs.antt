@@ -1,6 +1,7 @@
 -- Believed: a contract of the headline stands on it.
 -- Runs: events in any order that the machine allows.
-use Rattle.std.specs.Prelude.{◌≡◌, ◌⊎◌, ℕ, suc, List, [], ◌∷◌, Some, None, true, map, slice_get, take}
+use Rattle.std.specs.Prelude.{◌≡◌, ◌⊎◌, ℕ, suc, List, [], ◌∷◌, Some, None, true, map, slice_get}
+use Rattle.std.specs.Prelude.{take}
 use Rattle.lock_model.specs.Machine.{Setup, Event, is_allowed, happens}
 use Rattle.lock_model.specs.Programs.{Supply, listed}
 use Rattle.posix_terms.specs.declared.step.Step.{Step}
@@ -19,6 +20,7 @@ abbrev pub IsRun : Setup → List Event → State → Type 0
 IsRun setup [] s = Unit {0}
 IsRun setup (e ∷ es) s = (is_allowed setup e s ≡ true) × IsRun setup es (happens setup e s)
 
+-- the same setup, with these programs and outcomes
 abbrev pub supplied : Setup → Supply → Setup
 supplied setup given = record setup { supply = given }
 
@@ -46,7 +48,7 @@ pub record LeadsTo (setup : Setup) (first s : State) : Type 0 where
   pub allowed : IsRun setup events first
   pub ends : run setup events first ≡ s
 
--- s is the end of a run from first in which just those steps and outcomes came that s has
+-- s is the end of a run from first in which exactly those steps and outcomes came that s has
 abbrev pub Arises : Setup → State → State → Type 0
 Arises setup first s = LeadsTo (supplied setup (own s)) first s
 
@@ -65,6 +67,7 @@ Supplies list n came = (given : Given) × (slice_get list n ≡ Some given) × B
 -- replies to them, and each outcome that came is what that of its place in its list becomes
 pub record Follows (given : Supply) (s : State) : Type 0 where
   pub steps : (i n : ℕ) (x : Step) → slice_get (thread_of s i).asked n ≡ Some x
-      → let asked = take n (thread_of s i).asked in given.next i asked (take (calls_in asked) (thread_of s i).replies) ≡ Some x
+      → let asked = take n (thread_of s i).asked in
+      given.next i asked (take (calls_in asked) (thread_of s i).replies) ≡ Some x
   pub outcomes : (i n : ℕ) (o : Given) → slice_get (thread_of s i).came n ≡ Some o
       → Supplies (given.outcomes i) n o

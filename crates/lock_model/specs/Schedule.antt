@@ -6,22 +6,28 @@ use Rattle.lock_model.specs.Machine.Event.{Advances, Attempts}
 use Rattle.lock_model.specs.State.{State, live_clocks}
 use Rattle.logical_clocks.specs.TurnOrder.{first_below, turn_holder}
 
+-- the attempt of this thread, if there is such a thread and it can make one
 abbrev pub attempt_by : Setup → State → Option ℕ → Option Event
 attempt_by setup s None = None
 attempt_by setup s (Some i) = if can_attempt setup s i then Some (Attempts i) else None
 
+-- the event of this thread that needs no turn or, if there is none, the attempt of whoever has the
+-- turn
 abbrev pub advance_by : Setup → State → Option ℕ → Option Event
 advance_by setup s (Some i) = Some (Advances i)
 advance_by setup s None = attempt_by setup s (turn_holder (live_clocks s))
 
--- events that need no turn come first, in the order of the threads; when there is none, whoever has the turn attempts its call, where it can
+-- events that need no turn come first, in the order of the threads; when there
+-- is none, whoever has the turn attempts its call, where it can
 unfoldable pub next_event : Setup → State → Option Event
 next_event setup s = advance_by setup s (first_below (length s.threads) (can_advance setup s))
 
+-- the state after this event, if there is one
 abbrev pub after_event : Setup → State → Option Event → State
 after_event setup s None = s
 after_event setup s (Some e) = happens setup e s
 
+-- the state after the next event of the plain run
 unfoldable pub plain : Setup → State → State
 plain setup s = after_event setup s (next_event setup s)
 

@@ -21,6 +21,7 @@ FailsTo setup zero s last = s ≡ last
 FailsTo setup (suc n) s last =
     (i : ℕ) × Fails setup s i × FailsTo setup n (attempt setup i s) last
 
+-- the turn of this thread at this clock
 abbrev pub turn_at : ℕ → ℕ → Turn
 turn_at thread clock = record { clock = clock; thread = thread }
 
@@ -37,6 +38,7 @@ FailsUntil s turn j clock (WantsObject call carried at n way) =
 FailsUntil s turn j clock Ended = Unit {0}
 FailsUntil s turn j clock phase = is_before (turn_at j clock) turn ≡ false
 
+-- no turn of any thread before this one is for more than an attempt that fails
 abbrev pub AllFailUntil : Turn → State → Type 0
 AllFailUntil turn s = (j : ℕ) → FailsUntil s turn j (thread_of s j).clock (thread_of s j).phase
 

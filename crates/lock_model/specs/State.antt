@@ -22,11 +22,13 @@ pub record Job : Type 0 where
   pub carried : Carried
   pub outcome : Option Given
 
+-- where a thread is: it works, wants a lock, is in a granted call, is blocked, or has ended
 pub data Phase : Type 0 where
   Working : Phase
   WantsTable : (call : Call) → (carried : Carried) → Phase
   -- holding the table, with the clock of its table attempt
-  WantsObject : (call : Call) → (carried : Carried) → (clock : ℕ) → (number : ℕ) → (way : Way) → Phase
+  WantsObject : (call : Call) → (carried : Carried) → (clock : ℕ) → (number : ℕ) → (way : Way)
+      → Phase
   Granted : (job : Job) → Phase
   ToOutside : (job : Job) → Phase
   Outside : (job : Job) → Phase
@@ -49,7 +51,8 @@ pub record Row : Type 0 where
   pub outcome : Option Given
   pub answer : Option TurnEnd
 
--- the locks of the table and of each object number, the rows in the order of the grants, and what the granted calls have made
+-- the locks of the table and of each object number, the rows in the
+-- order of the grants, and what the granted calls have made
 pub record State : Type 0 where
   pub threads : List Thread
   pub table : DetLock
@@ -57,15 +60,19 @@ pub record State : Type 0 where
   pub rows : List Row
   pub world : World
 
+-- what stands for a thread that is not there: it has ended
 abbrev pub nobody : Thread
 nobody = record { phase = Ended; clock = 0; asked = []; replies = []; came = [] }
 
+-- thread i of a state
 abbrev pub thread_of : State → ℕ → Thread
 thread_of s i = get_or s.threads i nobody
 
+-- the lock of object number n
 abbrev pub object_of : State → ℕ → DetLock
 object_of s n = get_or s.objects n new_lock
 
+-- the clock of a thread, unless it has ended by its phase
 abbrev pub live_clock_in : Phase → ℕ → Option ℕ
 live_clock_in Ended clock = None
 live_clock_in phase clock = Some clock
@@ -74,6 +81,7 @@ live_clock_in phase clock = Some clock
 abbrev pub live_clock : Thread → Option ℕ
 live_clock t = live_clock_in t.phase t.clock
 
+-- of each thread the clock, unless it has ended
 abbrev pub live_clocks : State → List (Option ℕ)
 live_clocks s = map live_clock s.threads
 
@@ -81,7 +89,13 @@ live_clocks s = map live_clock s.threads
 abbrev pub start : ℕ → ℕ → World → State
 start threads objects w =
     record {
-      threads = replicate threads (record { phase = Working; clock = 1; asked = []; replies = []; came = [] });
+      threads = replicate threads (record {
+        phase = Working;
+        clock = 1;
+        asked = [];
+        replies = [];
+        came = [];
+      });
       table = new_lock;
       objects = replicate objects new_lock;
       rows = [];

@@ -14,7 +14,8 @@ use Rattle.sequential_object.specs.Worlds.{World}
 abbrev pub last_clock : List Given → ℕ
 last_clock came = fold (λ (last : ℕ) (o : Given). unwrap_or o.clock 0) 0 came
 
--- of a thread that is outside the turn comes after those of all that came for it, and its clock is past that turn
+-- of a thread that is outside the turn comes after those of all
+-- that came for it, and its clock is past that turn
 abbrev pub TimesOfArisen : Type 0
 TimesOfArisen =
     (setup : Setup) (threads objects : ℕ) (w : World) (s : State)

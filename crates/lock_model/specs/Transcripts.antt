@@ -9,6 +9,7 @@ use Rattle.posix_terms.specs.declared.outcome.Given.{Given}
 use Rattle.posix_terms.specs.declared.reply.Reply.{Reply}
 use Rattle.posix_terms.specs.declared.transcript.Row.{Row as TranscriptRow}
 
+-- the row of a transcript for this row, if its answer is a reply
 abbrev pub replied : Row → Option TurnEnd → Option TranscriptRow
 replied r (Some (turn_end.Reply x)) = Some (record { call = r.call; turn = r.turn; reply = x })
 replied r (Some (turn_end.Blocked b)) = None

@@ -3,7 +3,7 @@
 //!
 //! A *run* is any list of events that the machine allows; the *plain run* is the one deterministic
 //! schedule. Each function here is a law: it does nothing, takes no memory and asks for nothing,
-//! and whoever calls it in a body knows from there on what its contract says. `one_event` tells
+//! and whoever calls it in a body knows from there on what its contract says. `one_event` says
 //! what one event changes, and `arising_states` what holds of each state that a run leads to. By
 //! `legal_history` each answer is the one that the calls before it lead to, and by `prefix_law`
 //! what the threads saw at any moment is a beginning of what they see in the plain run. `real_runs`
@@ -34,7 +34,8 @@ ghost use Rattle.lock_model.specs.Came.{PlainLeads, RepliesAreRows, RoomOutside,
 ghost use Rattle.lock_model.specs.CallTable.Plan.{No_object, Object};
 ghost use Rattle.lock_model.specs.CallTable.Way.{Door, Inside, Keeps_table};
 ghost use Rattle.lock_model.specs.Events.{EventLaws};
-ghost use Rattle.lock_model.specs.Example.{Words, alone, blocked_call, one_call, replied_at, three_calls, turn, turns, two};
+ghost use Rattle.lock_model.specs.Example.{Words, alone, blocked_call, one_call, replied_at};
+ghost use Rattle.lock_model.specs.Example.{three_calls, turn, turns, two};
 ghost use Rattle.lock_model.specs.Laws.{ArisesAtStart, ArisesByEvent, ArisesByRun, DatedOfArisen};
 ghost use Rattle.lock_model.specs.Laws.{EachEventLowers, EndedOrTurn, EndsHere, EndsNext};
 ghost use Rattle.lock_model.specs.Laws.{HolderHasTurn, LegalLaw, LegalOfArisen, LocksOfArisen};
@@ -43,7 +44,8 @@ ghost use Rattle.lock_model.specs.Laws.{PlansOfArisen, PrefixLaw, PrefixLawOfCam
 ghost use Rattle.lock_model.specs.Laws.{PrefixLawOfFollowed, PrefixLawOfOwn, RisingLaw};
 ghost use Rattle.lock_model.specs.Laws.{RisingOfArisen, RowsOfArisen, RunFollows, SomeEnd};
 ghost use Rattle.lock_model.specs.Laws.{SomeTurn, StepsOfArisen, StuckLaw, UniqueEnd};
-ghost use Rattle.lock_model.specs.RealLaws.{RealEnd, RealLegal, RealLegalOfArisen, RealPrefix, RealRising};
+ghost use Rattle.lock_model.specs.RealLaws.{RealEnd, RealLegal, RealLegalOfArisen, RealPrefix};
+ghost use Rattle.lock_model.specs.RealLaws.{RealRising};
 ghost use Rattle.lock_model.specs.Schedule.{IsOver, plain_run};
 ghost use Rattle.lock_model.specs.Skipping.{SkipLaw};
 ghost use Rattle.lock_model.specs.Times.{TimesOfArisen};
@@ -98,7 +100,8 @@ pub fn plain_run_ends()
     ensures is_run { PlainIsRun }
 {}
 
-/// What one event does to the threads, for a function that makes runs event by event: it changes no thread but its own, and that one as its
+/// What one event does to the threads, for a function that makes runs event by
+/// event: it changes no thread but its own, and that one as its
 /// phase says; where it is not allowed it changes nothing.
 pub fn one_event()
     ensures { EventLaws }
@@ -119,12 +122,12 @@ pub fn legal_history()
     ensures rising { RisingLaw }
 {}
 
-/// A state arises from a first one where it is the end of a run in which just the steps and
+/// A state arises from a first one where it is the end of a run in which exactly the steps and
 /// outcomes came that it has itself. The start arises; each event leads from a state that arises to
 /// one that arises, whatever the setup supplies; so each run's state arises, and its threads follow
 /// their programs. The history of a state that arises is legal, its turns rise, and the outcome of
 /// a row has the clock of its turn (`dated`); that of a thread that is outside comes after those of
-/// all that came for it (`times`). In it each lock is held by just the thread whose phase says so,
+/// all that came for it (`times`). In it each lock is held by exactly the thread whose phase says so,
 /// and a thread in a call has one row without an answer, that of its call. It was planned in the
 /// world that it found, which stays as it is while the call keeps the table, and an outcome that
 /// came answers what it asks (`plans`). The last step that such a thread asked is that call, and
@@ -145,8 +148,10 @@ pub fn arising_states()
 {}
 
 /// The same for the real calls, in the words of files and descriptors. Whatever the order of events, the sequential
-/// object, given the calls in the order of the rows, gives each answer that a thread got (`legal`; `arisen`: of any state
-/// that arises), the turns rise (`rising`), and each thread sees a beginning of what it sees in the plain run (`prefix`),
+/// object, given the calls in the order of the rows, gives each answer
+/// that a thread got (`legal`; `arisen`: of any state
+/// that arises), the turns rise (`rising`), and each thread sees a
+/// beginning of what it sees in the plain run (`prefix`),
 /// which comes to an end where the programs do (`ends`).
 pub fn real_runs()
     ensures legal { RealLegal }
@@ -167,15 +172,27 @@ pub fn real_runs()
 /// granted at 1 and 5, and never replies; at a limit of 10 its third attempt for the object is not allowed
 /// (`blocked`).
 pub fn worked_runs()
-    ensures unlocked { (x : Words) → turns (plain_run (one_call x No_object) 10 (two x)).rows ≡ turn 1 0 ∷ turn 3 1 ∷ [] }
-    ensures unlocked_over { (x : Words) → IsOver (one_call x No_object) (plain_run (one_call x No_object) 10 (two x)) }
-    ensures locked { (x : Words) → turns (plain_run (one_call x (Object 0 Inside)) 13 (two x)).rows ≡ turn 1 0 ∷ turn 4 1 ∷ [] }
-    ensures locked_over { (x : Words) → IsOver (one_call x (Object 0 Inside)) (plain_run (one_call x (Object 0 Inside)) 13 (two x)) }
-    ensures outside { (x : Words) → transcript 0 (plain_run (three_calls x (Object 0 Door)) 19 (alone x)).rows ≡ replied_at x (turn 1 0) ∷ replied_at x (turn 105 0) ∷ replied_at x (turn 209 0) ∷ [] }
-    ensures keeping { (x : Words) → transcript 0 (plain_run (three_calls x (Object 0 Keeps_table)) 19 (alone x)).rows ≡ replied_at x (turn 1 0) ∷ replied_at x (turn 105 0) ∷ replied_at x (turn 209 0) ∷ [] }
-    ensures blocked { (x : Words) → turns (plain_run (blocked_call x) 10 (alone x)).rows ≡ turn 1 0 ∷ turn 5 0 ∷ [] }
-    ensures blocked_silent { (x : Words) → transcript 0 (plain_run (blocked_call x) 10 (alone x)).rows ≡ [] }
-    ensures blocked_over { (x : Words) → IsOver (blocked_call x) (plain_run (blocked_call x) 10 (alone x)) }
+    ensures unlocked { (x : Words) → turns (plain_run (one_call x No_object) 10 (two x)).rows
+        ≡ turn 1 0 ∷ turn 3 1 ∷ [] }
+    ensures unlocked_over { (x : Words)
+        → IsOver (one_call x No_object) (plain_run (one_call x No_object) 10 (two x)) }
+    ensures locked { (x : Words) → turns (plain_run (one_call x (Object 0 Inside)) 13 (two x)).rows
+        ≡ turn 1 0 ∷ turn 4 1 ∷ [] }
+    ensures locked_over { (x : Words)
+        → IsOver (one_call x (Object 0 Inside))
+        (plain_run (one_call x (Object 0 Inside)) 13 (two x)) }
+    ensures outside { (x : Words) → transcript 0
+        (plain_run (three_calls x (Object 0 Door)) 19 (alone x)).rows
+        ≡ replied_at x (turn 1 0) ∷ replied_at x (turn 105 0) ∷ replied_at x (turn 209 0) ∷ [] }
+    ensures keeping { (x : Words) → transcript 0
+        (plain_run (three_calls x (Object 0 Keeps_table)) 19 (alone x)).rows
+        ≡ replied_at x (turn 1 0) ∷ replied_at x (turn 105 0) ∷ replied_at x (turn 209 0) ∷ [] }
+    ensures blocked { (x : Words) → turns (plain_run (blocked_call x) 10 (alone x)).rows
+        ≡ turn 1 0 ∷ turn 5 0 ∷ [] }
+    ensures blocked_silent { (x : Words)
+        → transcript 0 (plain_run (blocked_call x) 10 (alone x)).rows ≡ [] }
+    ensures blocked_over { (x : Words)
+        → IsOver (blocked_call x) (plain_run (blocked_call x) 10 (alone x)) }
 {}
 
 /// The plain run and the outcomes that came in it. Each came with the clock of its call's turn, and
