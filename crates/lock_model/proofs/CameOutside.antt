@@ -5,7 +5,8 @@ use Rattle.lock_model.specs.Came.{CameOutside}
 use Rattle.lock_model.specs.CallTable.{CallTable}
 use Rattle.sequential_object.specs.declared.turn_end.TurnEnd.{TurnEnd}
 use Rattle.sequential_object.specs.declared.turn_end.TurnEnd.TheVariants as turn_end
-use Rattle.lock_model.specs.Machine.{Moved, Setup, advance, after_step, answered, attempt, can_advance, can_attempt, move, moves}
+use Rattle.lock_model.specs.Machine.{Moved, Setup, advance, after_step, answered, attempt, can_advance, can_attempt}
+use Rattle.lock_model.specs.Machine.{move, moves}
 use Rattle.lock_model.specs.Machine.Event.{Advances, Attempts}
 use Rattle.lock_model.specs.State.{Job, State, Thread, thread_of}
 use Rattle.lock_model.specs.State.Phase.{Outside}
@@ -28,7 +29,8 @@ answered_came : (t : Thread) (c : Call) (n : ℕ) (a : TurnEnd) → (answered t 
 answered_came t c n (turn_end.Reply r) = refl
 answered_came t c n (turn_end.Blocked b) = refl
 
-move_came : (setup : Setup) (i : ℕ) (t : Thread) (m : Moved) → moves setup i t ≡ Some m → ((job : Job) → t.phase ≡ Outside job → ⊥) → m.thread.came ≡ t.came
+move_came : (setup : Setup) (i : ℕ) (t : Thread) (m : Moved) → moves setup i t ≡ Some m
+    → ((job : Job) → t.phase ≡ Outside job → ⊥) → m.thread.came ≡ t.came
 move_came setup i t m h inside =
     at_moves setup i t (λ p n. ((job : Job) → p ≡ Outside job → ⊥) → n.thread.came ≡ t.came) m
     (record {
@@ -41,28 +43,34 @@ move_came setup i t m h inside =
     })
     h inside
 
-advanced_came : (setup : Setup) (s : State) (i : ℕ) → ((job : Job) → (thread_of s i).phase ≡ Outside job → ⊥) → (thread_of (advance setup i s) i).came ≡ (thread_of s i).came
+advanced_came : (setup : Setup) (s : State) (i : ℕ) → ((job : Job) → (thread_of s i).phase ≡ Outside job → ⊥)
+    → (thread_of (advance setup i s) i).came ≡ (thread_of s i).came
 advanced_came setup s i inside =
     ⊎_elim
     (λ (can : can_advance setup s i ≡ true).
     let m = move_of setup s i can in
-    let there : thread_of (advance setup i s) i ≡ m.0.thread = ap (λ (z : State). thread_of z i) (advance_move setup i s ∙ ap (λ o. move i o s) m.1) ∙ thread_moved setup s i m.0 m.1 in
+    let there : thread_of (advance setup i s) i ≡ m.0.thread =
+    ap (λ (z : State). thread_of z i) (advance_move setup i s ∙ ap (λ o. move i o s) m.1)
+    ∙ thread_moved setup s i m.0 m.1 in
     ap (λ (t : Thread). t.came) there ∙ move_came setup i (thread_of s i) m.0 m.1 inside)
-    (λ (off : can_advance setup s i ≡ false). ap (λ (z : State). (thread_of z i).came) (not_allowed setup (Advances i) s off))
+    (λ (off : can_advance setup s i ≡ false). ap (λ (z : State). (thread_of z i).came)
+    (not_allowed setup (Advances i) s off))
     (cases_Bool (can_advance setup s i))
 
 attempted_came : (setup : Setup) (s : State) (i : ℕ) → (thread_of (attempt setup i s) i).came ≡ (thread_of s i).came
 attempted_came setup s i =
     ⊎_elim
     (λ (can : can_attempt setup s i ≡ true). (attempt_tried setup s i can).came)
-    (λ (off : can_attempt setup s i ≡ false). ap (λ (z : State). (thread_of z i).came) (not_allowed setup (Attempts i) s off))
+    (λ (off : can_attempt setup s i ≡ false). ap (λ (z : State). (thread_of z i).came)
+    (not_allowed setup (Attempts i) s off))
     (cases_Bool (can_attempt setup s i))
 
 pub came_outside : CameOutside
 came_outside setup s (Advances i) k inside = by_thread (cases_eq i k)
   where
     by_thread : (i ≡ k) ⊎ (i ≡ k → ⊥) → (thread_of (advance setup i s) k).came ≡ (thread_of s k).came
-    by_thread (inl is) = ap (λ (n : ℕ). (thread_of (advance setup n s) k).came) is ∙ advanced_came setup s k (inside (ap Advances is))
+    by_thread (inl is) = ap (λ (n : ℕ). (thread_of (advance setup n s) k).came) is
+        ∙ advanced_came setup s k (inside (ap Advances is))
     by_thread (inr apart) = ap (λ (t : Thread). t.came) (thread_advance setup i k s apart)
 came_outside setup s (Attempts i) k inside = by_thread (cases_eq i k)
   where

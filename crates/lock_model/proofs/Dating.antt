@@ -1,7 +1,8 @@
 -- An outcome that comes has the clock of its call's turn, whether what was given had it or none.
 use Rattle.lock_model.specs.Came.{FitsAlike}
 use Rattle.std.proofs.lemmas.Option.{slice_get-map, none-some, same_Some}
-use Rattle.std.proofs.Common.{◌≡◌, ◌⊎◌, ℕ, List, slice_get, map, option_map, Option, Some, None, Bool, true, ◌&&◌, refl, ap, ap₂, ◌∙◌, inl, inr, ⊎_elim, [], ◌∷◌, zero, suc}
+use Rattle.std.proofs.Common.{◌≡◌, ◌⊎◌, ℕ, List, slice_get, map, option_map, Option, Some, None, Bool, true, ◌&&◌, refl}
+use Rattle.std.proofs.Common.{ap, ap₂, ◌∙◌, inl, inr, ⊎_elim, [], ◌∷◌, zero, suc}
 use Rattle.std.proofs.lemmas.Bool.{eq-eqb, eqb-true, and_parts}
 use Rattle.lock_model.specs.CallTable.{CallTable}
 use Rattle.lock_model.specs.Machine.{fits_job}
@@ -46,20 +47,25 @@ dated_alike turn g o h = ap (dated turn) h.same
 
 pub fits_alike : FitsAlike
 fits_alike calls job g o h fits =
-    let parts = and_parts (calls.fits (calls.asks job.found job.call job.carried) (undated o)) (is_at job.turn o.clock) fits in
+    let parts = and_parts (calls.fits (calls.asks job.found job.call job.carried) (undated o)) (is_at job.turn o.clock)
+    fits in
     ap₂ (λ (a b : Bool). a && b)
     (ap (calls.fits (calls.asks job.found job.call job.carried)) h.same ∙ parts.0)
     (becomes_at job.turn g o h parts.1)
 
-pub dated_fits : (calls : CallTable) (job : Job) (o : Given) → fits_job calls job o ≡ true → fits_job calls job (dated job.turn o) ≡ true
+pub dated_fits : (calls : CallTable) (job : Job) (o : Given) → fits_job calls job o ≡ true
+    → fits_job calls job (dated job.turn o) ≡ true
 dated_fits calls job o fits =
-    let parts = and_parts (calls.fits (calls.asks job.found job.call job.carried) (undated o)) (is_at job.turn o.clock) fits in
+    let parts = and_parts (calls.fits (calls.asks job.found job.call job.carried) (undated o)) (is_at job.turn o.clock)
+    fits in
     ap₂ (λ (a b : Bool). a && b) parts.0 (eq-eqb job.turn.clock job.turn.clock refl)
 
 -- an outcome that fits at its turn becomes what comes
-pub fitting_becomes : (calls : CallTable) (job : Job) (o : Given) → fits_job calls job o ≡ true → Becomes o (dated job.turn o)
+pub fitting_becomes : (calls : CallTable) (job : Job) (o : Given) → fits_job calls job o ≡ true
+    → Becomes o (dated job.turn o)
 fitting_becomes calls job o fits =
-    becomes_dated job.turn o (and_parts (calls.fits (calls.asks job.found job.call job.carried) (undated o)) (is_at job.turn o.clock) fits).1
+    becomes_dated job.turn o (and_parts (calls.fits (calls.asks job.found job.call job.carried) (undated o))
+    (is_at job.turn o.clock) fits).1
 
 -- a list supplies what stands in it
 pub supplies_itself : (list : List Given) (n : ℕ) (o : Given) → slice_get list n ≡ Some o → Supplies list n o
@@ -69,11 +75,13 @@ pub supplies_later : (list : List Given) (n : ℕ) (o p : Given) → Supplies li
 supplies_later list n o p (g, at, is) h = (g, at, becomes_trans g o p is h)
 
 -- what is kept of a list supplies it
-pub supplies_kept : (kept : Given → Given) → Keeps kept → (came : List Given) (n : ℕ) (o : Given) → slice_get came n ≡ Some o → Supplies (map kept came) n o
+pub supplies_kept : (kept : Given → Given) → Keeps kept → (came : List Given) (n : ℕ) (o : Given)
+    → slice_get came n ≡ Some o → Supplies (map kept came) n o
 supplies_kept kept keeps came n o at = (kept o, slice_get-map kept came n ∙ ap (option_map kept) at, keeps o)
 
 -- and each that stands there is of one that came
-pub kept_at : (kept : Given → Given) (came : List Given) (n : ℕ) (o : Given) → slice_get (map kept came) n ≡ Some o → (p : Given) × (slice_get came n ≡ Some p) × (kept p ≡ o)
+pub kept_at : (kept : Given → Given) (came : List Given) (n : ℕ) (o : Given) → slice_get (map kept came) n ≡ Some o
+    → (p : Given) × (slice_get came n ≡ Some p) × (kept p ≡ o)
 kept_at kept [] n o at = absurd (none-some o at)
 kept_at kept (p ∷ came) zero o at = (p, refl, same_Some (kept p) o at)
 kept_at kept (p ∷ came) (suc n) o at = kept_at kept came n o at

@@ -1,5 +1,6 @@
 -- Some thread has the turn, unless all have ended.
-use Rattle.std.proofs.Common.{◌≡◌, ℕ, zero, suc, ◌<◌, ◌≤◌, ◌⊎◌, List, length, get_or, Option, Some, None, true, sym, refl, ap, ◌∙◌, inl, inr, ⊎_elim, arith}
+use Rattle.std.proofs.Common.{◌≡◌, ℕ, zero, suc, ◌<◌, ◌≤◌, ◌⊎◌, List, length, get_or, Option, Some, None, true, sym}
+use Rattle.std.proofs.Common.{refl, ap, ◌∙◌, inl, inr, ⊎_elim, arith}
 use Rattle.std.proofs.lemmas.Bool.{false≢true, cases_eq, cases_lt}
 use Rattle.std.proofs.lemmas.Option.{same_Some, none-some}
 use Rattle.lock_model.specs.Laws.{HaveEnded}
@@ -21,8 +22,11 @@ pub record Earliest (clocks : List (Option ℕ)) (n : ℕ) : Type 0 where
 abbrev NoneLive : List (Option ℕ) → ℕ → Type 0
 NoneLive clocks n = (j : ℕ) → j < n → get_or clocks j None ≡ None
 
-earliest_more : (clocks : List (Option ℕ)) (n : ℕ) (o : Option ℕ) → get_or clocks n None ≡ o → NoneLive clocks n ⊎ Earliest clocks n → NoneLive clocks (suc n) ⊎ Earliest clocks (suc n)
-earliest_more clocks n None e (inl none) = inl (λ j l. ⊎_elim (λ (q : j ≡ n). ap (λ (k : ℕ). get_or clocks k None) q ∙ e) (λ (q : j ≡ n → ⊥). none j (omega arith)) (cases_eq j n))
+earliest_more : (clocks : List (Option ℕ)) (n : ℕ) (o : Option ℕ) → get_or clocks n None ≡ o → NoneLive clocks n
+    ⊎ Earliest clocks n → NoneLive clocks (suc n) ⊎ Earliest clocks (suc n)
+earliest_more clocks n None e (inl none) =
+    inl (λ j l. ⊎_elim (λ (q : j ≡ n). ap (λ (k : ℕ). get_or clocks k None) q ∙ e)
+    (λ (q : j ≡ n → ⊥). none j (omega arith)) (cases_eq j n))
 earliest_more clocks n None e (inr h) =
     inr
     (record {
@@ -31,7 +35,8 @@ earliest_more clocks n None e (inr h) =
       below = let l = h.below in omega arith;
       live = h.live;
       first = λ j d l q apart.
-          ⊎_elim (λ (s : j ≡ n). absurd (none-some d (sym e ∙ (ap (λ (k : ℕ). get_or clocks k None) (sym s) ∙ q)))) (λ (s : j ≡ n → ⊥). h.first j d (omega arith) q apart) (cases_eq j n);
+          ⊎_elim (λ (s : j ≡ n). absurd (none-some d (sym e ∙ (ap (λ (k : ℕ). get_or clocks k None) (sym s) ∙ q))))
+          (λ (s : j ≡ n → ⊥). h.first j d (omega arith) q apart) (cases_eq j n);
     })
 earliest_more clocks n (Some c) e (inl none) =
     inr
@@ -55,9 +60,11 @@ earliest_more clocks n (Some c) e (inr h) =
       first = λ j d l q apart.
           ⊎_elim
           (λ (s : j ≡ h.thread).
-          let same : h.clock ≡ d = same_Some h.clock d (sym h.live ∙ (ap (λ (k : ℕ). get_or clocks k None) (sym s) ∙ q)) in
+          let same : h.clock ≡ d = same_Some h.clock d (sym h.live ∙ (ap (λ (k : ℕ). get_or clocks k None) (sym s) ∙ q))
+          in
           inl (omega arith))
-          (λ (s : j ≡ h.thread → ⊥). let far : IsEarlier h.clock h.thread d j = h.first j d (omega arith) q s in inl (omega arith))
+          (λ (s : j ≡ h.thread → ⊥). let far : IsEarlier h.clock h.thread d j = h.first j d (omega arith) q s in
+          inl (omega arith))
           (cases_eq j h.thread);
     }))
     (λ (more : h.clock ≤ c).
@@ -87,26 +94,39 @@ earliest clocks (suc n) = earliest_more clocks n (get_or clocks n None) refl (ea
 -- the earliest of all live threads has the turn
 earliest_turn : (clocks : List (Option ℕ)) (h : Earliest clocks (length clocks)) → has_turn clocks h.thread ≡ true
 earliest_turn clocks h =
-    turn_in clocks h.thread (record { clock = h.clock; live = h.live; first = λ j d q apart. h.first j d (clock_within clocks j d q) q apart })
+    turn_in clocks h.thread (record {
+      clock = h.clock;
+      live = h.live;
+      first = λ j d q apart. h.first j d (clock_within clocks j d q) q apart;
+    })
 
-holder_by : (clocks : List (Option ℕ)) (i : ℕ) (o : Option ℕ) → turn_holder clocks ≡ o → has_turn clocks i ≡ true → turn_holder clocks ≡ Some i
+holder_by : (clocks : List (Option ℕ)) (i : ℕ) (o : Option ℕ) → turn_holder clocks ≡ o → has_turn clocks i ≡ true
+    → turn_holder clocks ≡ Some i
 unfolding turn_holder
 holder_by clocks i None e h =
     let g = turn_out clocks i h in
-    absurd (false≢true (sym (first_none (length clocks) i (has_turn clocks) e (clock_within clocks i g.clock g.live)) ∙ h))
-holder_by clocks i (Some k) e h = e ∙ ap (λ (n : ℕ). Some n) (turn_unique clocks k i (first_some (length clocks) (has_turn clocks) k e) h)
+    absurd (false≢true (sym (first_none (length clocks) i (has_turn clocks) e (clock_within clocks i g.clock g.live))
+    ∙ h))
+holder_by clocks i (Some k) e h = e
+    ∙ ap (λ (n : ℕ). Some n) (turn_unique clocks k i (first_some (length clocks) (has_turn clocks) k e) h)
 
 -- the holder is the thread that has the turn
 pub holder_turn : (clocks : List (Option ℕ)) (i : ℕ) → (turn_holder clocks ≡ Some i) ↔ (has_turn clocks i ≡ true)
 unfolding turn_holder
-holder_turn clocks i = (λ h. first_some (length clocks) (has_turn clocks) i h, λ h. holder_by clocks i (turn_holder clocks) refl h)
+holder_turn clocks i = (
+  λ h. first_some (length clocks) (has_turn clocks) i h,
+  λ h. holder_by clocks i
+      (turn_holder clocks) refl h,
+)
 
 -- and there is one where any thread is live
-pub holder_there : (clocks : List (Option ℕ)) (i c : ℕ) → get_or clocks i None ≡ Some c → (k : ℕ) × (turn_holder clocks ≡ Some k)
+pub holder_there : (clocks : List (Option ℕ)) (i c : ℕ) → get_or clocks i None ≡ Some c → (k : ℕ)
+    × (turn_holder clocks ≡ Some k)
 holder_there clocks i c h =
     ⊎_elim
     (λ (none : NoneLive clocks (length clocks)). absurd (none-some c (sym (none i (clock_within clocks i c h)) ∙ h)))
-    (λ (e : Earliest clocks (length clocks)). (e.thread, holder_by clocks e.thread (turn_holder clocks) refl (earliest_turn clocks e)))
+    (λ (e : Earliest clocks (length clocks)).
+    (e.thread, holder_by clocks e.thread (turn_holder clocks) refl (earliest_turn clocks e)))
     (earliest clocks (length clocks))
 
 -- ## Where a plain run is over
@@ -115,7 +135,8 @@ live_or_ended : (p : Phase) (c : ℕ) → (p ≡ Ended) ⊎ (live_clock_in p c �
 live_or_ended Ended c = inl refl
 live_or_ended p c = inr refl
 
-over_by : (s : State) (o : Option ℕ) → turn_holder (live_clocks s) ≡ o → HaveEnded s ⊎ ((i : ℕ) × (turn_holder (live_clocks s) ≡ Some i))
+over_by : (s : State) (o : Option ℕ) → turn_holder (live_clocks s) ≡ o → HaveEnded s
+    ⊎ ((i : ℕ) × (turn_holder (live_clocks s) ≡ Some i))
 over_by s (Some i) e = inr (i, e)
 over_by s None e =
     inl

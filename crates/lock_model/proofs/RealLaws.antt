@@ -16,7 +16,9 @@ real_legal_arisen locks alike settings supply threads s arises =
 
 pub real_legal : OutsideLocks → LeavesAlike → RealLegal
 real_legal locks alike settings supply threads events =
-    real_legal_arisen locks alike settings supply threads (real_run settings supply threads events) (arises_run (real_setup settings supply) threads limit.OBJECTS first_world events)
+    real_legal_arisen locks alike settings supply threads (real_run settings supply threads events)
+    (arises_run (real_setup settings supply) threads limit.OBJECTS first_world events)
 
 pub real_prefix : RealPrefix
-real_prefix settings supply threads events last h = prefix_law (real_setup settings supply) threads limit.OBJECTS first_world events last h
+real_prefix settings supply threads events last h = prefix_law (real_setup settings supply) threads limit.OBJECTS
+    first_world events last h

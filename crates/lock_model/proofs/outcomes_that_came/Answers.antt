@@ -2,7 +2,8 @@ use Rattle.lock_model.proofs.Dating.{fits_alike}
 use Rattle.lock_model.proofs.CameRows.{came_is_rows, room_outside}
 use Rattle.lock_model.proofs.RepliesRows.{replies_are_rows}
 use Rattle.lock_model.proofs.CameOutside.{came_outside}
-use Rattle.lock_model.proofs.PlainCame.{came_grows, outside_stays, over_under_came, plain_arises, plain_count, plain_leads, same_under_came}
+use Rattle.lock_model.proofs.PlainCame.{came_grows, outside_stays, over_under_came, plain_arises, plain_count}
+use Rattle.lock_model.proofs.PlainCame.{plain_leads, same_under_came}
 use Rattle.lock_model.proofs.outcomes_that_came.Goals as goal
 
 pub returns-clause-alike : goal.returns-clause-alike

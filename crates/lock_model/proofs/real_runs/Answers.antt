@@ -13,10 +13,12 @@ pub returns-clause-arisen : goal.returns-clause-arisen
 returns-clause-arisen c = real_legal_arisen c.calls_outside.ensures.locks c.calls_outside.ensures.leaves
 
 pub returns-clause-rising : goal.returns-clause-rising
-returns-clause-rising c = λ settings supply threads events. rising_law (real_setup settings supply) threads limit.OBJECTS first_world events
+returns-clause-rising c = λ settings supply threads events. rising_law (real_setup settings supply) threads
+    limit.OBJECTS first_world events
 
 pub returns-clause-prefix : goal.returns-clause-prefix
 returns-clause-prefix c = real_prefix
 
 pub returns-clause-ends : goal.returns-clause-ends
-returns-clause-ends c = λ settings supply threads finite. some_end (real_setup settings supply) (real_start threads) finite
+returns-clause-ends c = λ settings supply threads finite. some_end (real_setup settings supply) (real_start threads)
+    finite

@@ -6,7 +6,8 @@ use Rattle.logical_clocks.specs.TurnOrder.{first_below, yields, has_turn, turn_h
 use Rattle.lock_model.proofs.worked_runs.Goals as goal
 
 pub returns : goal.returns
-unfolding takes moves lock_after world_after row_after advance can_attempt attempt next_event plain plain_run first_below yields has_turn turn_holder
+unfolding takes moves lock_after world_after row_after advance can_attempt attempt next_event plain plain_run
+    first_below yields has_turn turn_holder
 returns c =
     record {
       unlocked = λ x. refl;
