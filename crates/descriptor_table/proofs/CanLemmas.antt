@@ -1,5 +1,6 @@
 -- What was found in the view of a table is so in the table: what each change needs.
-use Rattle.std.proofs.Common.{◌≡◌, ◌⊎◌, ℕ, ◌+◌, ◌-◌, ◌<◌, ◌≤◌, List, length, Option, Some, None, Ok, true, sym, ap, ◌∙◌, subst, inl, inr, arith}
+use Rattle.std.proofs.Common.{◌≡◌, ◌⊎◌, ℕ, ◌+◌, ◌-◌, ◌<◌, ◌≤◌, List, length, Option, Some, None, Ok, true, sym, ap, ◌∙◌}
+use Rattle.std.proofs.Common.{subst, inl, inr, arith}
 use Rattle.std.proofs.lemmas.Bool.Decides.{nat_tests}
 use Rattle.std.specs.FinMap as fin
 use Rattle.std.specs.Prelude.{pos}
@@ -26,7 +27,8 @@ use Rattle.descriptor_table.proofs.SoundLemmas.{bind_ok, closed_other, key_insid
 use Rattle.descriptor_table.proofs.UseLemmas.{key_there, named_used, seen_key, seen_used}
 use Rattle.descriptor_table.specs.Applied.{AreNumbers}
 use Rattle.descriptor_table.specs.Laws.{IsKnownNumber}
-use Rattle.descriptor_table.specs.Changes.{CanChange, CanMakeEnds, IsFreeNumber, IsFreePath, IsNextObject, Refers, closed}
+use Rattle.descriptor_table.specs.Changes.{CanChange, CanMakeEnds, IsFreeNumber, IsFreePath, IsNextObject, Refers}
+use Rattle.descriptor_table.specs.Changes.{closed}
 use Rattle.descriptor_table.specs.Table.{TableState, IsSound, free_object, is_used, key_at, lowest_free, lowest_from}
 use Rattle.descriptor_table.specs.View.{view}
 
@@ -81,18 +83,26 @@ path_free t path can =
     let found = bind_ok (resolved t.paths path) (λ components. Ok (node_at t.paths components)) None can.missing in
     free_path t.paths path found.0 found.1.0 (ok_same _ _ found.1.1) can.room
 
-names_so : (paths : PathMap) (components : List (List ℕ)) (object : ℕ) → node_at paths components ≡ Some (FileNode object)
+names_so : (paths : PathMap) (components : List (List ℕ)) (object : ℕ)
+    → node_at paths components ≡ Some (FileNode object)
     → fin.get paths components ≡ Some (FileNode object)
 names_so paths components object at = grind (arith, at)
 
 pub file_named : (paths : PathMap) (path : List ℕ) (object : ℕ) → looked_up paths path ≡ Ok (Some (FileNode object))
     → NamesFile paths path object
-file_named paths path object is = names_so paths (components_of path) object (found_at paths path (Some (FileNode object)) is).0
+file_named paths path object is =
+    names_so paths (components_of path) object (found_at paths path (Some (FileNode object)) is).0
 
 ends_so : (t : TableState) (new : NewEnds) → CanEnds (view t) new → CanMakeEnds t new
 ends_so t new can =
-    let above : new.first + 1 ≤ new.second = lowest_above t.descriptors (32 - (new.first + 1)) (new.first + 1) new.second can.second in
-    (free_at t 0 new.first can.first, free_at t (new.first + 1) new.second can.second, omega (arith, above), next_object t new.object can.next)
+    let above : new.first + 1 ≤ new.second = lowest_above t.descriptors (32 - (new.first + 1)) (new.first + 1)
+    new.second can.second in (
+      free_at t 0 new.first can.first,
+      free_at t (new.first + 1) new.second can.second,
+      omega (arith, above),
+      next_object
+          t new.object can.next,
+    )
 
 pub can_so : (t : TableState) (c : Call) (x : Change) → IsSound t → Can (view t) c x → CanChange t c x
 can_so t c change.Nothing sound can = tt
@@ -132,28 +142,37 @@ used_known t object sound used =
 next_known : (t : TableState) (object : ℕ) → free_object t ≡ Some object → IsKnownNumber t object
 next_known t object next = let is : IsNextObject t object = next_object t object next in (is.0, inr next)
 
-seen_known : (t : TableState) (object : ℕ) (at : Seen) → IsSound t → IsSeen (view t) at → at.object ≡ object → IsKnownNumber t object
-seen_known t object at sound its is = subst (IsKnownNumber t) is (used_known t at.object sound (seen_used t at sound its))
+seen_known : (t : TableState) (object : ℕ) (at : Seen) → IsSound t → IsSeen (view t) at → at.object ≡ object
+    → IsKnownNumber t object
+seen_known t object at sound its is =
+    subst (IsKnownNumber t) is (used_known t at.object sound (seen_used t at sound its))
 
-acts_known : (t : TableState) (c : Call) (object : ℕ) (a : Act) → IsSound t → CanAct (view t) c object a → IsKnownNumber t object
+acts_known : (t : TableState) (c : Call) (object : ℕ) (a : Act) → IsSound t → CanAct (view t) c object a
+    → IsKnownNumber t object
 acts_known t c object (act.Open n cut) sound can = used_known t object sound (named_used t object sound can.0)
 acts_known t c object (act.Create n) sound can = next_known t object can.0
 acts_known t c object act.Release sound (inl named) = used_known t object sound (named_used t object sound named)
-acts_known t c object act.Release sound (inr referred) = seen_known t object referred.at sound referred.found referred.object_is
+acts_known t c object act.Release sound (inr referred) = seen_known t object referred.at sound referred.found
+    referred.object_is
 acts_known t c object (act.Read from count) sound can = seen_known t object from sound can.0.found can.0.object_is
 acts_known t c object (act.Write to before) sound can = seen_known t object to sound can.found can.object_is
-acts_known t c object (act.Pread count position) sound can = seen_known t object can.0.at sound can.0.file.found can.0.file.object_is
-acts_known t c object (act.Pwrite position) sound can = seen_known t object can.at sound can.file.found can.file.object_is
+acts_known t c object (act.Pread count position) sound can = seen_known t object can.0.at sound can.0.file.found
+    can.0.file.object_is
+acts_known t c object (act.Pwrite position) sound can =
+    seen_known t object can.at sound can.file.found can.file.object_is
 acts_known t c object (act.Lseek at) sound can = seen_known t object at sound can.found can.object_is
-acts_known t c object (act.Ftruncate size) sound can = seen_known t object can.0.at sound can.0.file.found can.0.file.object_is
+acts_known t c object (act.Ftruncate size) sound can = seen_known t object can.0.at sound can.0.file.found
+    can.0.file.object_is
 acts_known t c object (act.Fstat links) sound can = seen_known t object can.at sound can.file.found can.file.object_is
 acts_known t c object (act.Pipe first second) sound can = next_known t object can.next
 acts_known t c object (act.Socketpair first second) sound can = next_known t object can.next
 acts_known t c object (act.Shutdown side how) sound can = seen_known t object can.at sound can.found can.object_is
 
-pub object_known : (t : TableState) (c : Call) (object : ℕ) (d : Deed) → IsSound t → CanDo (view t) c object d → IsKnownNumber t object
+pub object_known : (t : TableState) (c : Call) (object : ℕ) (d : Deed) → IsSound t → CanDo (view t) c object d
+    → IsKnownNumber t object
 object_known t c object (deed.Acts a x) sound can = acts_known t c object a sound can.1
 object_known t c object (deed.Asks blocks) sound can = seen_known t object can.0.at sound can.0.found can.0.object_is
 object_known t c object (deed.Closes n key) sound can =
     seen_known t object can.0.at sound (record { descriptor = pos n; found = can.0.found }) can.0.object_is
-object_known t c object (deed.Opens blocks listener new) sound can = subst (IsKnownNumber t) (sym can.1) (next_known t new.object can.0.next)
+object_known t c object (deed.Opens blocks listener new) sound can =
+    subst (IsKnownNumber t) (sym can.1) (next_known t new.object can.0.next)

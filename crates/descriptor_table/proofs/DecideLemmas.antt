@@ -24,9 +24,11 @@ use Rattle.descriptor_table.specs.Table.{TableState, IsSound}
 use Rattle.descriptor_table.specs.View.{names_of, view}
 
 -- in a state that the table shows
-pub decides_as : DecidesAlike → (t : TableState) (s : State) → IsSound t → AreSound t.descriptions → Shows t s → (c : Call) (moved : Moved)
+pub decides_as : DecidesAlike → (t : TableState) (s : State) → IsSound t → AreSound t.descriptions → Shows t s
+    → (c : Call) (moved : Moved)
     → decided (seen s) c moved ≡ ok_by (decision_by (names_of t)) (decided (view t) c moved)
-decides_as names t s sound all shows c moved = names (names_of t) (view t) (seen s) c moved (alike_shown t s sound all shows)
+decides_as names t s sound all shows c moved =
+    names (names_of t) (view t) (seen s) c moved (alike_shown t s sound all shows)
 
 -- ## A directory that goes
 

@@ -43,7 +43,8 @@ is_there t at sound its =
 named_file : (t : TableState) (object : ℕ) → IsNamed (view t) object → (s : State) → Shows t s
     → is_of part.Only (content_of s (birth_at t object)) ≡ true
 named_file t object named s shows =
-    file_at_name t s (components_of named.path) object shows (found_at t.paths named.path (Some (FileNode object)) named.found).0
+    file_at_name t s (components_of named.path) object shows
+    (found_at t.paths named.path (Some (FileNode object)) named.found).0
 
 follows : DecidesAlike → DecidedSo → (t : TableState) (c : Call) (moved : Moved) → IsSound t → AreSound t.descriptions
     → Follows t c moved
@@ -52,7 +53,8 @@ follows names so t c moved sound all = record {
   step = λ s shows. decides_as names t s sound all shows c moved;
 }
 
-offset_moves : ChangesKeepSound → (t : TableState) (key offset : ℕ) → IsSound t → AreSound t.descriptions → ContainsKey t.descriptions key
+offset_moves : ChangesKeepSound → (t : TableState) (key offset : ℕ) → IsSound t → AreSound t.descriptions
+    → ContainsKey t.descriptions key
     → OffsetMoves t key offset
 offset_moves keep t key offset sound all known =
     let d : Description = description_at t.descriptions key in

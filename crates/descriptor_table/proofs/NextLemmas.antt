@@ -1,5 +1,7 @@
 -- Whether there is a number for a new object, and which it is, in the table and in the state.
-use Rattle.std.proofs.Common.{◌≡◌, ℕ, zero, suc, ◌+◌, ◌<◌, ◌≤◌, List, [], ◌∷◌, length, Option, Some, None, is_some, unwrap_or, Bool, true, false, cond, not, if◌then◌else◌, inl, inr, refl, sym, ap, ◌∙◌, arith}
+use Rattle.std.proofs.Common.{◌≡◌, ℕ, zero, suc, ◌+◌, ◌<◌, ◌≤◌, List, [], ◌∷◌, length, Option, Some, None, is_some}
+use Rattle.std.proofs.Common.{unwrap_or, Bool, true, false, cond, not, if◌then◌else◌, inl, inr, refl, sym, ap, ◌∙◌}
+use Rattle.std.proofs.Common.{arith}
 use Rattle.std.proofs.lemmas.Bool.{cases_eq}
 use Rattle.std.proofs.lemmas.Bool.Decides.{nat_tests}
 use Rattle.std.proofs.lemmas.List.Sums.{sum_by-cons}
@@ -16,7 +18,8 @@ use Rattle.descriptor_table.specs.Table.{TableState, IsSound, free_object, lowes
 
 -- ## The lowest number
 
-none_lowest : (slots : List (Option ℕ)) (left from : ℕ) → lowest_from slots left from ≡ None → (i : ℕ) → from ≤ i → i < from + left
+none_lowest : (slots : List (Option ℕ)) (left from : ℕ) → lowest_from slots left from ≡ None → (i : ℕ) → from ≤ i
+    → i < from + left
     → is_some (slice_index_or slots i None) ≡ true
 unfolding lowest_from
 none_lowest slots zero from is i above inside = absurd (omega arith)
@@ -27,12 +30,14 @@ none_lowest slots (suc left) from is i above inside =
         → (lowest_from slots left (from + 1) ≡ None → (i : ℕ) → from + 1 ≤ i → i < from + 1 + left
         → is_some (slice_index_or slots i None) ≡ true) → is_some (slice_index_or slots i None) ≡ true
     by_test false free later =
-        absurd (none-some _ (sym is ∙ ap (λ (b : Bool). if b then lowest_from slots left (from + 1) else Some from) free))
+        absurd (none-some _ (sym is ∙ ap (λ (b : Bool). if b then lowest_from slots left (from + 1) else Some from)
+        free))
     by_test true taken later =
         elim (cases_eq i from) [
           | inl e ↦ ap (λ (k : ℕ). is_some (slice_index_or slots k None)) e ∙ taken
           | inr apart ↦ (
-              later (sym (ap (λ (b : Bool). if b then lowest_from slots left (from + 1) else Some from) taken) ∙ is) i (omega arith)
+              later (sym (ap (λ (b : Bool). if b then lowest_from slots left (from + 1) else Some from) taken) ∙ is) i
+              (omega arith)
               (omega arith))
         ]
 
@@ -45,9 +50,10 @@ all_taken (o ∷ os) each =
     omega (arith, rest, one, sum_by-cons (λ (x : Option ℕ). cond (is_some x) 1 0) o os)
 
 module _ (t : TableState) (s : State) (sound : IsSound t) (all : AreSound t.descriptions) (shows : Shows t s) where
-  -- there is a number for a new object just where there are not as many as there may be
+  -- there is a number for a new object exactly when there are not as many as there may be
   pub full_shown : nat_le 48 (fin.len s.objects) ≡ not (is_some (free_object t))
-  full_shown = ap (nat_le 48) (objects_counted t.objects s.objects (holds_of t s sound shows)) ∙ by_free (free_object t) refl
+  full_shown = ap (nat_le 48) (objects_counted t.objects s.objects (holds_of t s sound shows))
+      ∙ by_free (free_object t) refl
     where
       long : length t.objects ≡ 48
       long = sound.object_numbers
@@ -70,4 +76,5 @@ module _ (t : TableState) (s : State) (sound : IsSound t) (all : AreSound t.desc
 
   -- the next number of an object is that of the one to come
   pub born_next : (node : ℕ) → free_object t ≡ Some node → birth_at t node ≡ s.next_object
-  born_next node is = ap (λ (o : Option ℕ). unwrap_or o t.made_objects) (lowest_none t.objects 48 0 node is) ∙ sym shows.next_object
+  born_next node is = ap (λ (o : Option ℕ). unwrap_or o t.made_objects) (lowest_none t.objects 48 0 node is)
+      ∙ sym shows.next_object

@@ -1,7 +1,8 @@
 -- Internal: no contract of the headline or of a command stands on it.
 -- What each change does to the table: to its descriptors, descriptions and names, and to the
 -- numbers of its objects.
-use Rattle.std.specs.Prelude.{◌≡◌, ℕ, ◌+◌, ◌<◌, ◌≤◌, ◌^◌, pos, List, length, slice_index_or, slice_set, true, false, Option, Some, None, if◌then◌else◌}
+use Rattle.std.specs.Prelude.{◌≡◌, ℕ, ◌+◌, ◌<◌, ◌≤◌, ◌^◌, pos, List, length, slice_index_or}
+use Rattle.std.specs.Prelude.{slice_set, true, false, Option, Some, None, if◌then◌else◌}
 use Rattle.std.specs.FinMap as map
 use Rattle.sequential_object.specs.Names.{PathMap}
 use Rattle.sequential_object.specs.Object.{Node, FileNode, Directory}
@@ -15,7 +16,9 @@ use Rattle.posix_terms.specs.declared.object.End.{End}
 use Rattle.posix_terms.specs.declared.object.End.TheVariants as part
 use Rattle.posix_terms.specs.declared.object.Side.TheVariants.{Side0, Side1}
 use Rattle.directories.specs.Lookup.{NamesFile, moved_name}
-use Rattle.file_descriptions.specs.Descriptions.{ContainsKey, description_at, is_last_held, new_description, with_flags, with_holder, with_new, without_holder}
+use Rattle.file_descriptions.specs.Descriptions.{ContainsKey, description_at, is_last_held}
+use Rattle.file_descriptions.specs.Descriptions.{new_description, with_flags, with_holder, with_new}
+use Rattle.file_descriptions.specs.Descriptions.{without_holder}
 use Rattle.file_descriptions.specs.declared.description.StatusFlags.{StatusFlags}
 use Rattle.sequential_object.specs.Changes.{door_of, old_path_of, path_of}
 use Rattle.sequential_object.specs.declared.decision.Change.{Change}
@@ -55,15 +58,19 @@ closed t n key =
 
 -- ## Names
 
+-- the table with other names
 abbrev pub with_paths : TableState → PathMap → TableState
 with_paths t paths = record t { paths = paths }
 
+-- the names, once the path of a call names this
 abbrev pub named : TableState → Call → Node → PathMap
 named t c node = map.insert t.paths (components_of (path_of c)) node
 
+-- the names, once the path of a call names nothing
 abbrev pub unnamed : TableState → Call → PathMap
 unnamed t c = map.remove t.paths (components_of (path_of c))
 
+-- the names after a `rename`: the new path names the file, in the place of the old one
 abbrev pub renamed : TableState → Call → ℕ → PathMap
 renamed t c node = moved_name t.paths (old_path_of c) (path_of c) node
 
@@ -98,6 +105,7 @@ opened t n key node which access flags =
           with_new t.descriptions key (new_description node which access flags t.descriptions.made);
     }
 
+-- the status flags with which a descriptor is opened
 abbrev pub flags_of : NewDescriptor → StatusFlags
 flags_of new = record { append = new.append; nonblock = new.nonblock }
 
@@ -122,6 +130,7 @@ AreOpened t one other new after =
 
 -- ## All changes
 
+-- the table after a change of a call, whichever free keys its new descriptions get
 abbrev pub Changed : TableState → Call → Change → TableState → Type 0
 Changed t c change.Nothing after = after ≡ t
 Changed t c (change.Share n key) after = after ≡ shared t n key

@@ -22,7 +22,8 @@ use Rattle.descriptor_table.specs.Agreement.{DecidesAsStep}
 use Rattle.descriptor_table.specs.Applied.{AreNumbers}
 use Rattle.descriptor_table.specs.Changes.{IsFreeNumber, IsNextObject}
 use Rattle.descriptor_table.specs.Shows.{Shows, birth_at, birth_of, is_of, same_door}
-use Rattle.descriptor_table.specs.Table.{IsSound, TableState, empty_table, free_object, is_open, is_used}
+use Rattle.descriptor_table.specs.Table.{IsSound, TableState, empty_table, free_object, is_open}
+use Rattle.descriptor_table.specs.Table.{is_used}
 use Rattle.descriptor_table.specs.View.{names_of, view}
 
 -- the table with another offset of one description
@@ -60,6 +61,8 @@ abbrev pub IsKnownNumber : TableState → ℕ → Type 0
 IsKnownNumber t node =
     (node < limit.OBJECTS) × ((is_used t node ≡ true) ⊎ (free_object t ≡ Some node))
 
+-- all that holds of tables and of the states that they show: they decide alike, what a decision
+-- needs is there, and a new offset or content is shown too
 pub record TableFollows : Type 0 where
   -- the first table is sound, and shows the first state
   pub first : IsSound empty_table × Shows empty_table empty_state
@@ -88,7 +91,7 @@ pub record TableFollows : Type 0 where
       → posix.has_end s (birth_at t node) which ≡ is_open t node which
   pub offsets : (t : TableState) (key offset : ℕ) → IsSound t → AreSound t.descriptions
       → ContainsKey t.descriptions key → OffsetMoves t key offset
-  -- what an object holds is no matter, as long as it has the same ends
+  -- what an object holds does not matter, as long as it has the same ends
   pub contents : (t : TableState) (s : State) (birth : ℕ) (content : Content) → Shows t s
       → is_some (map.get s.objects birth) ≡ true → HasEndsOf content (content_of s birth)
       → Shows t (with_content s birth content)

@@ -26,6 +26,7 @@ errand_of c waits door = record {
   door = door;
 }
 
+-- what a call does at the object that it locks: an act, or a request to the outside
 abbrev pub op_of : Call → ℕ → Deed → Op
 op_of c object (deed.Acts a x) = op.Act a
 op_of c object (deed.Asks blocks) = op.Ask (errand_of c blocks (Some object))
@@ -37,6 +38,7 @@ abbrev pub keeps : Deed → Bool
 keeps (deed.Opens blocks listener new) = true
 keeps d = false
 
+-- the plan of a call of which this was decided, or which is refused with this error
 abbrev pub plan_of : Call → Result Decision Errno → Plan
 plan_of c (Ok (decision.Replies r x)) = plan.Reply r
 plan_of c (Ok (decision.Locks object d)) = plan.Node object (op_of c object d) (keeps d)
@@ -48,10 +50,12 @@ bytes_asked e = bytes_of_kind e.kind e.asked
 
 -- ## Refusals
 
+-- whether a reply is a failure
 abbrev pub is_failure : Reply → Bool
 is_failure (reply.Fail e) = true
 is_failure _ = false
 
+-- whether the table alone refuses a call that has this plan
 abbrev pub is_refused : Plan → Bool
 is_refused (plan.Reply r) = is_failure r
 is_refused (plan.Node node act keep_table) = false

@@ -1,11 +1,13 @@
 -- Believed: a contract of the headline stands on it.
 -- What a table shows of the sequential object: all but what the objects hold. The keys of the
 -- sequential object are the births of descriptions and of objects.
-use Rattle.std.specs.Prelude.{◌≡◌, ℕ, ◌==◌, ℤ, List, Bool, true, false, Some, None, Ok, Err, is_some, unwrap_or, slice_index_or}
+use Rattle.std.specs.Prelude.{◌≡◌, ℕ, ◌==◌, ℤ, List, Bool, true, false, Some, None, Ok, Err}
+use Rattle.std.specs.Prelude.{is_some, unwrap_or, slice_index_or}
 use Rattle.std.specs.Option.{option_map}
 use Rattle.std.specs.FinMap as map
 use Rattle.sequential_object.specs.Object as posix
-use Rattle.sequential_object.specs.Object.{State, Content, File, Pipe, Pair, DoorTo, Node, FileNode, Directory, content_of}
+use Rattle.sequential_object.specs.Object.{State, Content, File, Pipe, Pair, DoorTo, Node, FileNode}
+use Rattle.sequential_object.specs.Object.{Directory, content_of}
 use Rattle.posix_terms.specs.declared.object.Door.{Door}
 use Rattle.posix_terms.specs.declared.object.Door.TheVariants as door
 use Rattle.posix_terms.specs.declared.object.End.{End}
@@ -35,6 +37,7 @@ shown t d = record {
   nonblock = d.flags.nonblock;
 }
 
+-- what a path names, as the sequential object has it
 abbrev pub shown_node : TableState → Node → Node
 shown_node t (FileNode node) = FileNode (birth_at t node)
 shown_node t Directory = Directory
@@ -55,6 +58,7 @@ is_of (part.Socket side) (Pair sockets) = true
 is_of (part.Door one) (DoorTo other) = same_door one other
 is_of which content = false
 
+-- a table shows this state of the sequential object, but for what the objects hold
 pub record Shows (t : TableState) (s : State) : Type 0 where
   pub descriptors : (n : ℕ)
       → map.get s.descriptors n ≡ option_map (birth_of t) (slice_index_or t.descriptors n None)

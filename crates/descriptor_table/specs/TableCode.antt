@@ -8,9 +8,11 @@ use Rattle.file_descriptions.specs.DescriptionCode.{description_map_code}
 use Rattle.file_descriptions.specs.Descriptions.{DescriptionMap}
 use Rattle.descriptor_table.specs.Table.{TableState}
 
+-- the slots of descriptors or of objects, each with a number or without
 abbrev pub numbers_code : Coded (List (Option ℕ))
 numbers_code = coded_list (coded_option coded_ℕ)
 
+-- the table, as its fields in pairs
 abbrev pub table_code : Coded TableState
 table_code =
     code_by

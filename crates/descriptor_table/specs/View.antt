@@ -16,6 +16,7 @@ use Rattle.sequential_object.specs.declared.decision.Seen.{Seen}
 use Rattle.descriptor_table.specs.Shows.{birth_at, birth_of}
 use Rattle.descriptor_table.specs.Table.{TableState, described, free_object, is_closed, lowest_free}
 
+-- what a call sees of an open descriptor, by the description that it refers to
 abbrev pub seen_of : ℤ → ℕ × Description → Seen
 seen_of descriptor (key, d) = record {
   number = natural_of descriptor;
@@ -29,11 +30,13 @@ seen_of descriptor (key, d) = record {
   last = d.holders == 1;
 }
 
+-- what a call sees of a descriptor, or EBADF where it is not open
 abbrev pub seen_at : TableState → ℤ → Result Seen Errno
 seen_at t descriptor = do
   found ← described t descriptor
   Ok (seen_of descriptor found)
 
+-- what a call may look at in the table
 abbrev pub view : TableState → View
 view t = record {
   described = seen_at t;

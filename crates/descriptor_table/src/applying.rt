@@ -1,7 +1,9 @@
-ghost use Rattle.std.specs.Prelude.{◌≡◌, ◌<◌, ◌≤◌, ◌+◌, ◌^◌, pos, true, false, IsTrue, option_copied, Some, Ok};
+ghost use Rattle.std.specs.Prelude.{◌≡◌, ◌<◌, ◌≤◌, ◌+◌, ◌^◌, pos, true, false, IsTrue};
+ghost use Rattle.std.specs.Prelude.{option_copied, Some, Ok};
 ghost use Rattle.sequential_object.specs.Object.{State};
 ghost use Rattle.posix_terms.specs.declared.object.End.TheVariants as part;
-ghost use Rattle.sequential_object.specs.Changes.{changed, door_of, door_opened, old_path_of, path_of};
+ghost use Rattle.sequential_object.specs.Changes.{changed, door_of, door_opened, old_path_of};
+ghost use Rattle.sequential_object.specs.Changes.{path_of};
 ghost use Rattle.sequential_object.specs.Decided.{decided};
 ghost use Rattle.sequential_object.specs.Renaming.{change_by, decision_by, new_by, ok_by};
 ghost use Rattle.sequential_object.specs.So.{Can, CanDo, IsFree, IsSo};

@@ -8,7 +8,7 @@
 //! descriptor of a door that was opened outside. By the contracts what is decided is what the
 //! sequential object decides, and the table shows all of that object but what its objects hold, and
 //! goes on showing it. A table takes all its memory when it is made. A change asks that fewer than
-//! 2^127 descriptions and objects were ever made, which `made` tells.
+//! 2^127 descriptions and objects were ever made, which `made` returns.
 //!
 //! `Table::plan` gives a [`Plan`], which is a decision without its change. A caller that has only the
 //! plan of a call changes the table by `Table::apply`, which decides once more.

@@ -12,7 +12,7 @@ pub struct Errand {
     /// For a read and a write the count of bytes; for a listener the port, or 0 for any port; for a
     /// connection the port; else 0.
     pub asked: u64,
-    /// Whether the failure EAGAIN is no reply, but makes the call wait.
+    /// Whether the failure EAGAIN is not a reply, but makes the call wait.
     pub waits: bool,
     /// The object whose door is taken along; none where a file or a listener is opened, or a peer
     /// connected to.
@@ -27,7 +27,7 @@ pub enum Op {
     Ask(Errand),
 }
 
-/// The numbers of the descriptors that a call opened, where its plan has not told them: those of a
+/// The numbers of the descriptors that a call opened, where its plan does not give them: those of a
 /// call that opens a door, which are given only where that succeeds, and those of an act that opens
 /// descriptors.
 #[derive(Clone, Copy, Debug, PartialEq, Eq)]

@@ -1,14 +1,22 @@
-ghost use Rattle.std.specs.Prelude.{◌≡◌, ◌<◌, ◌≤◌, [], pos, ◌^◌, option_map, slice_index_or, slice_set, true, IfOk, IfErr, IfSome, Some, None, Ok, Err, if◌then◌else◌};
+ghost use Rattle.std.specs.Prelude.{◌≡◌, ◌<◌, ◌≤◌, [], pos, ◌^◌, option_map, slice_index_or};
+ghost use Rattle.std.specs.Prelude.{slice_set, true, IfOk, IfErr, IfSome, Some, None, Ok, Err};
+ghost use Rattle.std.specs.Prelude.{if◌then◌else◌};
 ghost use Rattle.std.specs.FinMap as fin;
 ghost use Rattle.directories.specs.Entries.{node_of};
 ghost use Rattle.directories.specs.Lookup.{moved_name};
 ghost use Rattle.sequential_object.specs.Paths.{components_of};
-ghost use Rattle.file_descriptions.specs.Descriptions.{AreSound, ContainsKey, description_at, is_last_held, with_flags, with_offset, ends_of};
+ghost use Rattle.file_descriptions.specs.Descriptions.{AreSound, ContainsKey, description_at};
+ghost use Rattle.file_descriptions.specs.Descriptions.{is_last_held, with_flags, with_offset};
+ghost use Rattle.file_descriptions.specs.Descriptions.{ends_of};
 ghost use Rattle.sequential_object.specs.Meant.{moved_to};
 ghost use Rattle.descriptor_table.specs.Shows.{Shows, birth_of};
 ghost use Rattle.sequential_object.specs.Object.{State, FileNode, empty_state};
-ghost use Rattle.descriptor_table.specs.Changes.{CanMove, IsFreeNumber, IsFreePath, IsNextObject, NamesUsed, Refers, let_go, opened, shared, with_file, with_object, with_paths, without_gone};
-ghost use Rattle.descriptor_table.specs.Table.{IsSound, empty_table, key_at, described, lowest_free, free_object, is_closed, is_gone, is_used, two_numbers};
+ghost use Rattle.descriptor_table.specs.Changes.{CanMove, IsFreeNumber, IsFreePath, IsNextObject};
+ghost use Rattle.descriptor_table.specs.Changes.{NamesUsed, Refers, let_go, opened, shared};
+ghost use Rattle.descriptor_table.specs.Changes.{with_file, with_object, with_paths, without_gone};
+ghost use Rattle.descriptor_table.specs.Table.{IsSound, empty_table, key_at, described};
+ghost use Rattle.descriptor_table.specs.Table.{lowest_free, free_object, is_closed, is_gone};
+ghost use Rattle.descriptor_table.specs.Table.{is_used, two_numbers};
 
 use crate::slots::lowest_from;
 use directories::{Names, Node};
@@ -39,9 +47,22 @@ impl Model for Table {
 
     ghost use Rattle.descriptor_table.specs.Table.{IsSound};
 
-    ghost view = { λ t. record { descriptors = t.descriptors; descriptions = t.descriptions; paths = t.names; objects = t.objects; made_objects = t.made_objects } };
+    ghost view = { λ t. record {
+      descriptors = t.descriptors;
+      descriptions = t.descriptions;
+      paths = t.names;
+      objects = t.objects;
+      made_objects = t.made_objects;
+    } };
 
-    ghost invariant = { λ t. IsSound (record { descriptors = t.descriptors; descriptions = t.descriptions; paths = t.names; objects = t.objects; made_objects = t.made_objects }) };
+    ghost invariant = { λ t. IsSound
+        (record {
+          descriptors = t.descriptors;
+          descriptions = t.descriptions;
+          paths = t.names;
+          objects = t.objects;
+          made_objects = t.made_objects;
+        }) };
 }
 
 impl Table {
@@ -97,7 +118,10 @@ impl Table {
             → let birth = birth_of self.old key in
             Shows self.new
             (moved_to s (Some offset) (Some birth) (fin.get s.descriptions birth)) }
-        ensures set { self.new ≡ record self.old { descriptions = with_offset self.old.descriptions key offset } }
+        ensures set { self.new ≡ record self.old {
+          descriptions =
+              with_offset self.old.descriptions key offset;
+        } }
     {
         self.known();
         self.descriptions.set_offset(key, offset);
@@ -171,8 +195,10 @@ impl Table {
     #[tactic(auto, using(crate::proofs::SoundLemmas::sound))]
     pub(crate) fn free_two(&self) -> Result<(usize, usize), Errno>
         ensures two { result ≡ two_numbers self.now }
-        ensures inside { IfOk result (λ n. (n.0 < Limits.DESCRIPTORS) × (n.1 < Limits.DESCRIPTORS)) }
-        ensures free { IfOk result (λ n. (key_at self.now (pos n.0) ≡ None) × (key_at self.now (pos n.1) ≡ None) × (n.0 < n.1)) }
+        ensures inside { IfOk result (λ n.
+            (n.0 < Limits.DESCRIPTORS) × (n.1 < Limits.DESCRIPTORS)) }
+        ensures free { IfOk result (λ n. (key_at self.now (pos n.0) ≡ None)
+            × (key_at self.now (pos n.1) ≡ None) × (n.0 < n.1)) }
     {
         let first = self.free_number(0).ok_or(Errno::EMFILE)?;
         let second = self.free_number(first + 1).ok_or(Errno::EMFILE)?;
@@ -225,7 +251,8 @@ impl Table {
     // A descriptor refers to its description no longer. Where that was the last one, its object is given.
     pub(crate) fn let_go(&mut self, number: usize, key: usize) -> Option<usize>
         requires refers { Refers self.old number key }
-        ensures ended { result ≡ (if is_last_held self.old.descriptions key then Some (description_at self.old.descriptions key).node else None) }
+        ensures ended { result ≡ (if is_last_held self.old.descriptions key then Some
+            (description_at self.old.descriptions key).node else None) }
         ensures left { self.new ≡ let_go self.old number key }
     {
         let ended = self.descriptions.drop_one(key);
@@ -280,7 +307,8 @@ impl Table {
         requires births { self.old.made_objects < 2 ^ 127 }
         requires path { IsFreePath self.old.paths path.now }
         requires next { IsNextObject self.old node }
-        ensures made { self.new ≡ with_file self.old (fin.insert self.old.paths (components_of path.now) (FileNode node)) node }
+        ensures made { self.new ≡ with_file self.old
+            (fin.insert self.old.paths (components_of path.now) (FileNode node)) node }
         ensures there { is_used self.new node ≡ true }
     {
         let birth = self.made_objects;
@@ -305,7 +333,10 @@ impl Table {
     // Sets both flags of a description.
     pub(crate) fn set_flags(&mut self, key: usize, flags: StatusFlags)
         requires { ContainsKey self.old.descriptions key }
-        ensures { self.new ≡ record self.old { descriptions = with_flags self.old.descriptions key flags } }
+        ensures { self.new ≡ record self.old {
+          descriptions =
+              with_flags self.old.descriptions key flags;
+        } }
     {
         self.descriptions.set_flags(key, flags);
     }
@@ -315,7 +346,8 @@ impl Table {
     pub(crate) fn add_name(&mut self, path: &[u8], node: Node)
         requires path { IsFreePath self.old.paths path.now }
         requires used { NamesUsed self.old (node_of node) }
-        ensures { self.new ≡ with_paths self.old (fin.insert self.old.paths (components_of path.now) (node_of node)) }
+        ensures { self.new ≡ with_paths self.old
+            (fin.insert self.old.paths (components_of path.now) (node_of node)) }
     {
         self.names.insert(path, node);
     }
@@ -332,7 +364,8 @@ impl Table {
     // A name less.
     #[tactic(auto, using(crate::proofs::SoundLemmas::sound))]
     pub(crate) fn remove_name(&mut self, path: &[u8])
-        ensures { self.new ≡ with_paths self.old (fin.remove self.old.paths (components_of path.now)) }
+        ensures { self.new ≡ with_paths self.old
+            (fin.remove self.old.paths (components_of path.now)) }
     {
         self.names.remove_name(path);
     }

@@ -1,5 +1,6 @@
 -- Hashes of components: the same for the same ones.
-use Rattle.std.proofs.Common.{◌≡◌, ℕ, zero, suc, ◌+◌, ◌-◌, ◌<◌, List, [], ◌∷◌, take, Bool, true, false, nat_eq, refl, sym, ap, ◌∙◌, eq-eqb, add-one, arith}
+use Rattle.std.proofs.Common.{◌≡◌, ℕ, zero, suc, ◌+◌, ◌-◌, ◌<◌, List, [], ◌∷◌, take, Bool, true, false, nat_eq, refl}
+use Rattle.std.proofs.Common.{sym, ap, ◌∙◌, eq-eqb, add-one, arith}
 use Rattle.std.specs.Cmp.Lexicographic.{pointwise}
 use Rattle.std.specs.Hash.FoldHasher.{write, finish}
 use Rattle.std.specs.declared.hash.FoldHasher.{FoldHasher}

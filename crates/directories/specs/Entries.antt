@@ -1,6 +1,7 @@
 -- Internal: no contract of the headline or of a command stands on it.
 -- How the names are kept: each with its path as it was written.
-use Rattle.std.specs.Prelude.{◌≡◌, ℕ, ◌<◌, List, [], ◌∷◌, length, map, Some, None, slice_index_or, refl}
+use Rattle.std.specs.Prelude.{◌≡◌, ℕ, ◌<◌, List, [], ◌∷◌, length, map, Some, None, slice_index_or}
+use Rattle.std.specs.Prelude.{refl}
 use Rattle.std.specs.FinMap as fin
 use Rattle.std.specs.declared.cmp.Ordering.{Ordering}
 use Rattle.sequential_object.specs.Object.{Node, FileNode, Directory, path_cmp}
@@ -11,13 +12,16 @@ use Rattle.directories.specs.declared.entry.Entry.{Entry}
 use Rattle.directories.specs.declared.entry.Node.{Node as Named}
 use Rattle.directories.specs.declared.entry.Node.TheVariants as named
 
+-- what an entry names, as the sequential object has it
 abbrev pub node_of : Named → Node
 node_of (named.File object) = FileNode object
 node_of named.Directory = Directory
 
+-- the components of the path of an entry, and what it names
 abbrev pub entry_of : Entry → List (List ℕ) × Node
 entry_of e = (components_of e.path.items, node_of e.node)
 
+-- an entry with the empty path, for a place that has none
 abbrev pub no_entry : Entry
 no_entry = record {
   path = record { items = [] };
@@ -28,6 +32,7 @@ no_entry = record {
   counted = refl;
 }
 
+-- the entry at this place, or `no_entry` past the last one
 abbrev pub entry_at : List Entry → ℕ → Entry
 entry_at entries i = slice_index_or entries i no_entry
 

@@ -13,7 +13,7 @@ use Rattle.posix_terms.specs.declared.errno.Errno.TheVariants.{EBUSY}
 use Rattle.std.specs.FinMap as map
 use Rattle.posix_terms.specs.declared.limits.TheConstants.Limits as limit
 
--- the file of a name, which is to be no directory
+-- the file of a name, which is not to be a directory
 abbrev pub file_node : Option Node → Result ℕ Errno
 file_node None = Err ENOENT
 file_node (Some Directory) = Err EPERM
@@ -71,6 +71,7 @@ removed_dir_at paths components (Some Directory) = do
   _ ← refuse_if (has_entries paths components) ENOTEMPTY
   Ok (map.remove paths components)
 
+-- without the name of the directory that has this path
 unfoldable pub removed_dir : PathMap → List ℕ → Result PathMap Errno
 removed_dir paths path = do
   components ← resolved paths path

@@ -87,7 +87,8 @@ impl Entry {
     /// Whether its path leads on from that of a directory.
     pub fn is_inside(&self, directory: &[u8], count: usize) -> bool
         requires { count ≡ length (components_of directory.now) }
-        ensures { result ≡ is_inside (components_of directory.now) (components_of self.now.path.items) }
+        ensures { result ≡ is_inside (components_of directory.now)
+            (components_of self.now.path.items) }
     {
         count < self.count && has_prefix_components(directory, self.path.as_slice(), count)
     }

@@ -1,4 +1,6 @@
-ghost use Rattle.std.specs.Prelude.{◌≡◌, ◌<◌, ◌≤◌, [], length, map, nat_le, take, IsSome, IfSome, IfNone, IfOk, IfErr, OnOk, OnErr, Ok, Err, Some, None, option_map};
+ghost use Rattle.std.specs.Prelude.{◌≡◌, ◌<◌, ◌≤◌, [], length, map, nat_le, take, IsSome, IfSome};
+ghost use Rattle.std.specs.Prelude.{IfNone, IfOk, IfErr, OnOk, OnErr, Ok, Err, Some, None};
+ghost use Rattle.std.specs.Prelude.{option_map};
 ghost use Rattle.std.specs.FinMap as fin;
 ghost use Rattle.sequential_object.specs.Object.{path_cmp, FileNode, Directory as a_directory};
 ghost use Rattle.sequential_object.specs.Paths.{components_of, node_at, resolved, walked};
@@ -50,10 +52,11 @@ impl Names {
     }
 
     /// What a path names: nothing, a file or a directory. It is refused where the path is not well formed
-    /// or leads through what is no directory.
+    /// or leads through what is not a directory.
     #[tactic(auto, unfolding(crate::specs::Lookup::looked_up))]
     pub fn resolve(&self, path: &[u8]) -> Result<Option<Node>, Errno>
-        ensures ok { IfOk result (λ node. looked_up self.now path.now ≡ Ok (option_map node_of node)) }
+        ensures ok { IfOk result (λ node. looked_up self.now path.now
+            ≡ Ok (option_map node_of node)) }
         ensures err { IfErr result (λ error. looked_up self.now path.now ≡ Err error) }
     {
         let count = self.components(path)?;
@@ -64,7 +67,8 @@ impl Names {
     /// there are as many names as there may be; then nothing changes.
     pub fn add(&mut self, path: &[u8], node: usize) -> Result<(), Errno>
         ensures ok { OnOk result (added self.old path.now (FileNode node) ≡ Ok self.new) }
-        ensures err { IfErr result (λ error. (added self.old path.now (FileNode node) ≡ Err error) × (self.new ≡ self.old)) }
+        ensures err { IfErr result (λ error. (added self.old path.now (FileNode node) ≡ Err error)
+            × (self.new ≡ self.old)) }
     {
         self.add_node(path, Node::File(node))
     }
@@ -72,17 +76,19 @@ impl Names {
     /// Makes a directory. Refused as in `add`.
     pub fn make_dir(&mut self, path: &[u8]) -> Result<(), Errno>
         ensures ok { OnOk result (added self.old path.now a_directory ≡ Ok self.new) }
-        ensures err { IfErr result (λ error. (added self.old path.now a_directory ≡ Err error) × (self.new ≡ self.old)) }
+        ensures err { IfErr result (λ error. (added self.old path.now a_directory ≡ Err error)
+            × (self.new ≡ self.old)) }
     {
         self.add_node(path, Node::Directory)
     }
 
-    /// Takes the name of a file away, and tells which file that was. Refused as in `resolve`, where the
+    /// Takes the name of a file away, and returns which file that was. Refused as in `resolve`, where the
     /// path names nothing, and where it names a directory; then nothing changes.
     #[tactic(auto, unfolding(crate::specs::Naming::removed))]
     pub fn remove(&mut self, path: &[u8]) -> Result<usize, Errno>
         ensures ok { IfOk result (λ node. removed self.old path.now ≡ Ok (self.new, node)) }
-        ensures err { IfErr result (λ error. (removed self.old path.now ≡ Err error) × (self.new ≡ self.old)) }
+        ensures err { IfErr result (λ error. (removed self.old path.now ≡ Err error)
+            × (self.new ≡ self.old)) }
     {
         let count = self.components(path)?;
         match self.named(path, count) {
@@ -141,7 +147,8 @@ impl Names {
     /// Takes a directory away. Refused as `check_remove_dir` says; then nothing changes.
     pub fn remove_dir(&mut self, path: &[u8]) -> Result<(), Errno>
         ensures ok { OnOk result (removed_dir self.old path.now ≡ Ok self.new) }
-        ensures err { IfErr result (λ error. (removed_dir self.old path.now ≡ Err error) × (self.new ≡ self.old)) }
+        ensures err { IfErr result (λ error. (removed_dir self.old path.now ≡ Err error)
+            × (self.new ≡ self.old)) }
     {
         self.check_remove_dir(path)?;
         self.remove_entry(path, component_count(path));
@@ -152,7 +159,8 @@ impl Names {
     /// it names a file, at the root, and where there are names inside.
     #[tactic(auto, unfolding(crate::specs::Naming::removed_dir))]
     pub fn check_remove_dir(&self, path: &[u8]) -> Result<(), Errno>
-        ensures ok { OnOk result (removed_dir self.now path.now ≡ Ok (fin.remove self.now (components_of path.now))) }
+        ensures ok { OnOk result (removed_dir self.now path.now
+            ≡ Ok (fin.remove self.now (components_of path.now))) }
         ensures err { IfErr result (λ error. removed_dir self.now path.now ≡ Err error) }
     {
         let count = self.components(path)?;
@@ -163,7 +171,8 @@ impl Names {
         }
     }
 
-    /// Gives a new name, for which there is room: the path is one of which `resolve` found that it names nothing, and it
+    /// Gives a new name, for which there is room: the path is one of
+    /// which `resolve` found that it names nothing, and it
     /// is not looked up again. `add` and `make_dir` look first.
     #[tactic(auto, using(crate::proofs::NameLemmas::entries))]
     pub fn insert(&mut self, path: &[u8], node: Node)
@@ -236,7 +245,8 @@ impl Names {
     fn walk(&self, path: &[u8], count: usize) -> Result<(), Errno>
         requires { count ≡ length (components_of path.now) }
         ensures ok { OnOk result (walked self.now [] (components_of path.now) ≡ Ok tt) }
-        ensures err { IfErr result (λ error. walked self.now [] (components_of path.now) ≡ Err error) }
+        ensures err { IfErr result (λ error. walked self.now [] (components_of path.now)
+            ≡ Err error) }
     {
         for passed in 0..count.saturating_sub(1) {
             match self.node(path, passed + 1) {
@@ -252,7 +262,8 @@ impl Names {
     #[tactic(auto, using(crate::proofs::NameLemmas::entries, crate::proofs::NameLemmas::nodes))]
     fn node(&self, path: &[u8], count: usize) -> Option<Node>
         requires { count ≤ length (components_of path.now) }
-        ensures { option_map node_of result ≡ node_at self.now (take count (components_of path.now)) }
+        ensures { option_map node_of result
+            ≡ node_at self.now (take count (components_of path.now)) }
     {
         if count == 0 {
             return Some(Node::Directory);
@@ -273,7 +284,8 @@ impl Names {
     #[tactic(auto, using(crate::proofs::NameLemmas::nodes), unfolding(crate::specs::Naming::added))]
     fn add_node(&mut self, path: &[u8], node: Node) -> Result<(), Errno>
         ensures ok { OnOk result (added self.old path.now (node_of node) ≡ Ok self.new) }
-        ensures err { IfErr result (λ error. (added self.old path.now (node_of node) ≡ Err error) × (self.new ≡ self.old)) }
+        ensures err { IfErr result (λ error. (added self.old path.now (node_of node) ≡ Err error)
+            × (self.new ≡ self.old)) }
     {
         let count = self.components(path)?;
         if self.named(path, count).is_some() {
@@ -304,8 +316,10 @@ impl Names {
     // Whether what is a directory may be taken away.
     fn check_directory(&self, path: &[u8], count: usize) -> Result<(), Errno>
         requires { count ≡ length (components_of path.now) }
-        ensures ok { OnOk result (removed_dir_at self.now (components_of path.now) (Some a_directory) ≡ Ok (fin.remove self.now (components_of path.now))) }
-        ensures err { IfErr result (λ error. removed_dir_at self.now (components_of path.now) (Some a_directory) ≡ Err error) }
+        ensures ok { OnOk result (removed_dir_at self.now (components_of path.now)
+            (Some a_directory) ≡ Ok (fin.remove self.now (components_of path.now))) }
+        ensures err { IfErr result (λ error. removed_dir_at self.now (components_of path.now)
+            (Some a_directory) ≡ Err error) }
     {
         if count == 0 {
             return Err(Errno::EBUSY);
@@ -335,7 +349,8 @@ impl Names {
 #[tactic(auto, using(crate::proofs::NameLemmas::finding))]
 fn position(entries: &[Entry], path: &[u8], count: usize) -> Option<usize>
     ensures found { IfSome result (λ i. IsAt entries.now i (take count (components_of path.now))) }
-    ensures missing { IfNone result (fin.find path_cmp (take count (components_of path.now)) (map entry_of entries.now) ≡ None) }
+    ensures missing { IfNone result
+        (fin.find path_cmp (take count (components_of path.now)) (map entry_of entries.now) ≡ None) }
 {
     let hash = prefix_hash(path, count);
     for i in 0..entries.len() {

@@ -1,7 +1,9 @@
-ghost use Rattle.std.specs.Prelude.{◌≡◌, ◌==◌, ◌<◌, ◌≤◌, ◌∷◌, [], length, drop, take, nat_eq, nat_lt, position, IfSome, IfNone, IfOk, IfErr, Ok, Err};
+ghost use Rattle.std.specs.Prelude.{◌≡◌, ◌==◌, ◌<◌, ◌≤◌, ◌∷◌, [], length, drop, take, nat_eq};
+ghost use Rattle.std.specs.Prelude.{nat_lt, position, IfSome, IfNone, IfOk, IfErr, Ok, Err};
 ghost use Rattle.std.specs.Cmp.Lexicographic.{pointwise};
 ghost use Rattle.std.specs.List.{list_any};
-ghost use Rattle.sequential_object.specs.Paths.{slash, components_of, has_trailing_slash, is_dots, path_form};
+ghost use Rattle.sequential_object.specs.Paths.{slash, components_of, has_trailing_slash, is_dots};
+ghost use Rattle.sequential_object.specs.Paths.{path_form};
 ghost use Rattle.directories.specs.Hashes.{hash_of};
 
 use posix_terms::{Errno, Limits};
@@ -26,7 +28,8 @@ fn after(path: &[u8], count: usize) -> &[u8]
 #[tactic(auto, using(crate::proofs::ComponentLemmas::components))]
 fn split_first(path: &[u8]) -> Option<(&[u8], &[u8])>
     ensures none { IfNone result (components_of path.now ≡ []) }
-    ensures some { IfSome result (λ parts. components_of path.now ≡ parts.0.now ∷ components_of parts.1.now) }
+    ensures some { IfSome result (λ parts. components_of path.now
+        ≡ parts.0.now ∷ components_of parts.1.now) }
     ensures shorter { IfSome result (λ parts. length parts.1.now < length path.now) }
 {
     let mut rest = path;
@@ -76,7 +79,8 @@ pub fn prefix_hash(path: &[u8], count: usize) -> u64
 // Whether a path has the components of the first `count` of another path.
 #[tactic(auto, using(crate::proofs::ComponentLemmas::prefixes))]
 pub fn has_prefix_components(path: &[u8], other: &[u8], count: usize) -> bool
-    ensures { result ≡ pointwise (pointwise nat_eq) (components_of path.now) (take count (components_of other.now)) }
+    ensures { result ≡ pointwise (pointwise nat_eq) (components_of path.now)
+        (take count (components_of other.now)) }
 {
     let Some((name, next)) = split_first(path) else {
         return count == 0 || split_first(other).is_none();
@@ -113,7 +117,8 @@ fn has_dots(path: &[u8]) -> bool
 
 // Whether a component is longer than a name may be.
 fn has_long_name(path: &[u8]) -> bool
-    ensures { result ≡ list_any (λ name. nat_lt Limits.NAME_BYTES (length name)) (components_of path.now) }
+    ensures { result ≡ list_any (λ name. nat_lt Limits.NAME_BYTES (length name))
+        (components_of path.now) }
 {
     let mut rest = path;
     while let Some((name, next)) = split_first(rest) {
@@ -132,7 +137,7 @@ fn has_zero(path: &[u8]) -> bool
     path.iter().any(|b| *b == 0)
 }
 
-// Whether a path goes on behind its last component.
+// Whether a path goes on after its last component.
 fn has_trailing_slash(path: &[u8]) -> bool
     requires { 0 < length path.now }
     ensures { result ≡ has_trailing_slash path.now }

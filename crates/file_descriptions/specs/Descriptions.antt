@@ -1,7 +1,9 @@
 -- Believed: a contract of the headline stands on it.
--- Open file descriptions, by keys that are used again, with the number of descriptors that hold each.
+-- Open file descriptions, by keys that are used again, with
+-- the number of descriptors that hold each.
 -- POSIX.1-2017, Base Definitions, 3.258 (open file description).
-use Rattle.std.specs.Prelude.{◌≡◌, ℕ, ◌+◌, ◌-◌, ◌<◌, ◌≤◌, List, Bool, false, not, ◌&&◌, ◌==◌, Option, Some, IsTrue, unwrap_or, count_by, if◌then◌else◌}
+use Rattle.std.specs.Prelude.{◌≡◌, ℕ, ◌+◌, ◌-◌, ◌<◌, ◌≤◌, List, Bool, false, not, ◌&&◌, ◌==◌}
+use Rattle.std.specs.Prelude.{Option, Some, IsTrue, unwrap_or, count_by, if◌then◌else◌}
 use Rattle.std.specs.FinMap as map
 use Rattle.std.specs.FinMap.{FinMap}
 use Rattle.std.specs.Ordering.{nat_cmp}
@@ -20,12 +22,15 @@ pub record DescriptionMap : Type 0 where
   pub by_key : FinMap nat_cmp Description
   pub made : ℕ
 
+-- no description is there, and none was ever made
 abbrev pub no_descriptions : DescriptionMap
 no_descriptions = record { by_key = map.empty; made = 0 }
 
+-- a description is there under this key
 abbrev pub ContainsKey : DescriptionMap → ℕ → Type 0
 ContainsKey m key = IsTrue (map.contains_key m.by_key key)
 
+-- a description that no descriptor holds, for a key that has none
 abbrev pub no_description : Description
 no_description =
     record {
@@ -38,9 +43,11 @@ no_description =
       birth = 0;
     }
 
+-- the description under this key, or `no_description`
 abbrev pub description_at : DescriptionMap → ℕ → Description
 description_at m key = unwrap_or (map.get m.by_key key) no_description
 
+-- with this description under this key, in the place of the one before if there was one
 abbrev pub with_description : DescriptionMap → ℕ → Description → DescriptionMap
 with_description m key d = record m { by_key = map.insert m.by_key key d }
 
@@ -48,16 +55,28 @@ with_description m key d = record m { by_key = map.insert m.by_key key d }
 abbrev pub without : DescriptionMap → ℕ → DescriptionMap
 without m key = record m { by_key = map.remove m.by_key key }
 
--- a new description stands at offset 0, and one descriptor holds it. Its birth is the number of those made before
+-- a new description stands at offset 0, and one descriptor holds
+-- it. Its birth is the number of those made before
 abbrev pub new_description : ℕ → End → Access → StatusFlags → ℕ → Description
 new_description node part access flags birth =
-    record { node = node; «end» = part; access = access; offset = 0; flags = flags; holders = 1; birth = birth }
+    record {
+      node = node;
+      «end» = part;
+      access = access;
+      offset = 0;
+      flags = flags;
+      holders = 1;
+      birth = birth;
+    }
 
+-- with a new description under this key, so that one more was made
 abbrev pub with_new : DescriptionMap → ℕ → Description → DescriptionMap
 with_new m key d = record { by_key = map.insert m.by_key key d; made = m.made + 1 }
 
+-- one descriptor more holds the description
 abbrev pub with_holder : DescriptionMap → ℕ → DescriptionMap
-with_holder m key = let d = description_at m key in with_description m key (record d { holders = d.holders + 1 })
+with_holder m key = let d = description_at m key in
+    with_description m key (record d { holders = d.holders + 1 })
 
 -- whether one descriptor alone holds it
 abbrev pub is_last_held : DescriptionMap → ℕ → Bool
@@ -70,24 +89,34 @@ without_holder m key =
     if is_last_held m key then without m key else
     with_description m key (record d { holders = d.holders - 1 })
 
+-- the description under this key has these status flags
 abbrev pub with_flags : DescriptionMap → ℕ → StatusFlags → DescriptionMap
 with_flags m key flags = with_description m key (record (description_at m key) { flags = flags })
 
+-- the description under this key has this offset
 abbrev pub with_offset : DescriptionMap → ℕ → ℕ → DescriptionMap
-with_offset m key offset = with_description m key (record (description_at m key) { offset = offset })
+with_offset m key offset = with_description m key
+    (record (description_at m key) { offset = offset })
 
+-- whether a description is of the first end of this object
 abbrev pub has_first_end : ℕ → Description → Bool
 has_first_end node d = (d.node == node) && is_first d.«end»
 
+-- whether a description is of the second end of this object
 abbrev pub has_second_end : ℕ → Description → Bool
 has_second_end node d = (d.node == node) && not (is_first d.«end»)
 
 -- how many descriptions have each end of an object
 abbrev pub ends_of : DescriptionMap → ℕ → ℕ × ℕ
-ends_of m node = (count_by (has_first_end node) (map.values m.by_key), count_by (has_second_end node) (map.values m.by_key))
+ends_of m node = (
+  count_by (has_first_end node) (map.values m.by_key),
+  count_by
+      (has_second_end node) (map.values m.by_key),
+)
 
 -- ## What holds of every such map
 
+-- descriptions that descriptors hold, no more of them than descriptors, and with distinct births
 pub record AreSound (m : DescriptionMap) : Type 0 where
   -- there are no more than descriptors
   pub few : map.len m.by_key ≤ limit.DESCRIPTORS
@@ -96,7 +125,8 @@ pub record AreSound (m : DescriptionMap) : Type 0 where
   -- each was made
   pub born : (key : ℕ) (d : Description) → map.get m.by_key key ≡ Some d → d.birth < m.made
   -- no two have one birth
-  pub distinct : (key other : ℕ) (d e : Description) → map.get m.by_key key ≡ Some d → map.get m.by_key other ≡ Some e → d.birth ≡ e.birth → key ≡ other
+  pub distinct : (key other : ℕ) (d e : Description) → map.get m.by_key key ≡ Some d
+      → map.get m.by_key other ≡ Some e → d.birth ≡ e.birth → key ≡ other
 
 -- ## How they are stored
 

@@ -1,7 +1,12 @@
-ghost use Rattle.std.specs.Prelude.{◌≡◌, ◌<◌, ◌≤◌, ◌^◌, ◌↔◌, IsTrue, IsSome, IfOk, IfSome, IfNone, Some, None, if◌then◌else◌};
+ghost use Rattle.std.specs.Prelude.{◌≡◌, ◌<◌, ◌≤◌, ◌^◌, ◌↔◌, IsTrue, IsSome, IfOk, IfSome, IfNone};
+ghost use Rattle.std.specs.Prelude.{Some, None, if◌then◌else◌};
 ghost use Rattle.std.specs.FinMap as map;
 ghost use Rattle.slab.specs.Slab.{Updates, ContainsKey as HasKey};
-ghost use Rattle.file_descriptions.specs.Descriptions.{no_descriptions, ContainsKey, description_at, new_description, with_description, with_new, without, with_holder, is_last_held, without_holder, with_flags, with_offset, ends_of, AreSound};
+ghost use Rattle.file_descriptions.specs.Descriptions.{no_descriptions, ContainsKey};
+ghost use Rattle.file_descriptions.specs.Descriptions.{description_at, new_description};
+ghost use Rattle.file_descriptions.specs.Descriptions.{with_description, with_new, without};
+ghost use Rattle.file_descriptions.specs.Descriptions.{with_holder, is_last_held, without_holder};
+ghost use Rattle.file_descriptions.specs.Descriptions.{with_flags, with_offset, ends_of, AreSound};
 
 use crate::description::{Description, StatusFlags};
 use posix_terms::{Access, End, Limits};
@@ -31,7 +36,8 @@ impl Model for Descriptions {
 
     ghost view = { λ d. record { by_key = described d.slots.slots; made = d.made } };
 
-    ghost invariant = { λ d. AreSound (record { by_key = described d.slots.slots; made = d.made }) × (32 ≤ d.slots.capacity) };
+    ghost invariant = { λ d. AreSound (record { by_key = described d.slots.slots; made = d.made })
+        × (32 ≤ d.slots.capacity) };
 }
 
 impl Descriptions {
@@ -59,7 +65,8 @@ impl Descriptions {
         requires { self.old.made ≤ 2 ^ 127 }
         ensures room { IsSome result ↔ (map.len self.old.by_key < Limits.DESCRIPTORS) }
         ensures free { IfSome result (λ key. map.get self.old.by_key key ≡ None) }
-        ensures made { IfSome result (λ key. self.new ≡ with_new self.old key (new_description node end access flags self.old.made)) }
+        ensures made { IfSome result (λ key. self.new
+            ≡ with_new self.old key (new_description node end access flags self.old.made)) }
         ensures full { IfNone result (self.new ≡ self.old) }
         ensures sound { AreSound self.old }
     {
@@ -125,7 +132,8 @@ impl Descriptions {
     /// and the number of its object is given.
     pub fn drop_one(&mut self, key: usize) -> Option<usize>
         requires { ContainsKey self.old key }
-        ensures ended { result ≡ (if is_last_held self.old key then Some (description_at self.old key).node else None) }
+        ensures ended { result ≡ (if is_last_held self.old key then Some
+            (description_at self.old key).node else None) }
         ensures left { self.new ≡ without_holder self.old key }
     {
         let description = self.description(key);
@@ -228,7 +236,7 @@ impl Descriptions {
         put(&mut self.slots, key, description);
     }
 
-    // The description is no more.
+    // The description is gone.
     #[tactic(auto, using(crate::proofs::SlotLemmas::slots, crate::proofs::SoundLemmas::sound))]
     fn remove(&mut self, key: usize)
         requires { ContainsKey self.old key }

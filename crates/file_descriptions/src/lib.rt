@@ -21,7 +21,7 @@
 //! }
 //! assert!(rt; all.contains(key) && all.offset(key) == 12);
 //! assert!(rt; all.ends(7) == (1, 0));
-//! // The last descriptor goes: the description of object 7 is no more.
+//! // The last descriptor goes: the description of object 7 is gone.
 //! assert!(rt; all.contains(key) && all.drop_one(key) == Some(7));
 //! assert!(rt; !all.contains(key));
 //! ```

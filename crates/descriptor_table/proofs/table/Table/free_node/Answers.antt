@@ -5,6 +5,12 @@ use Rattle.descriptor_table.proofs.table.Table.free_node.Goals as goal
 
 pub invariant_of-self : goal.invariant_of-self
 invariant_of-self c =
-    let before : TableState = record { descriptors = c.self.inside.descriptors; descriptions = c.self.inside.descriptions; paths = c.self.inside.names; objects = c.self.inside.objects; made_objects = c.self.inside.made_objects } in
+    let before : TableState = record {
+      descriptors = c.self.inside.descriptors;
+      descriptions = c.self.inside.descriptions;
+      paths = c.self.inside.names;
+      objects = c.self.inside.objects;
+      made_objects = c.self.inside.made_objects;
+    } in
     let gone : is_gone before c.args.node ≡ true = rw (← c.self.view_is) at c.requires in
     sound-freed before c.args.node gone c.self.invariant

@@ -13,7 +13,8 @@ make_door-requires-clause-next c = next_object c.args.self.now c.args.new.object
 pub returns-clause-shows : goal.returns-clause-shows
 returns-clause-shows c = λ s shows.
     shows-door c.changes_keep_sound.ensures c.args.self.now s c.known.ensures.table c.known.ensures.descriptions shows
-    c.args.call.now c.args.new c.args.value c.make_door.new.self (number_free c.args.self.now c.args.new.number c.requires.free).0
+    c.args.call.now c.args.new c.args.value c.make_door.new.self
+    (number_free c.args.self.now c.args.new.number c.requires.free).0
     (next_object c.args.self.now c.args.new.object c.requires.next) c.make_door.ensures.opened
 
 pub returns-clause-numbers : goal.returns-clause-numbers

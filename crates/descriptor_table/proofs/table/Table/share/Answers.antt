@@ -7,7 +7,14 @@ use Rattle.descriptor_table.proofs.table.Table.share.Goals as goal
 
 pub invariant_of-self : goal.invariant_of-self
 invariant_of-self c =
-    let before : TableState = record { descriptors = c.self.inside.descriptors; descriptions = c.self.inside.descriptions; paths = c.self.inside.names; objects = c.self.inside.objects; made_objects = c.self.inside.made_objects } in
-    let free : slice_index_or before.descriptors c.args.number None ≡ None = rw (← c.self.view_is) at c.requires.free.1 in
+    let before : TableState = record {
+      descriptors = c.self.inside.descriptors;
+      descriptions = c.self.inside.descriptions;
+      paths = c.self.inside.names;
+      objects = c.self.inside.objects;
+      made_objects = c.self.inside.made_objects;
+    } in
+    let free : slice_index_or before.descriptors c.args.number None ≡ None =
+    rw (← c.self.view_is) at c.requires.free.1 in
     let known : ContainsKey before.descriptions c.args.key = rw (← c.self.view_is) at c.requires.known in
     rw c.hold.ensures (sound-shared before c.args.number c.args.key c.self.invariant known c.requires.free.0 free)

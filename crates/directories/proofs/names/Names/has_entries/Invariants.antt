@@ -5,4 +5,5 @@ use Rattle.directories.proofs.NameLemmas.{leads_in}
 use Rattle.directories.proofs.names.Names.has_entries.Given as goal
 
 abbrev pub invariant-loop-entry : goal.invariant-loop-entry
-invariant-loop-entry l = leads_in (components_of l.path) (drop l.entry-index l.entry-items) ≡ has_entries l.self (components_of l.path)
+invariant-loop-entry l = leads_in (components_of l.path) (drop l.entry-index l.entry-items)
+    ≡ has_entries l.self (components_of l.path)

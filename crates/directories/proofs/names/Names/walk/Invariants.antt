@@ -4,4 +4,5 @@ use Rattle.directories.proofs.names.Names.walk.Given as goal
 
 abbrev pub invariant-loop-passed : goal.invariant-loop-passed
 invariant-loop-passed l =
-    walked l.self (take l.passed (components_of l.path)) (drop l.passed (components_of l.path)) ≡ walked l.self [] (components_of l.path)
+    walked l.self (take l.passed (components_of l.path)) (drop l.passed (components_of l.path))
+    ≡ walked l.self [] (components_of l.path)

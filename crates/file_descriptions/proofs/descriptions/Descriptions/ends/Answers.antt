@@ -8,7 +8,8 @@ use Rattle.file_descriptions.proofs.descriptions.Descriptions.ends.Goals as goal
 pub loop-description-init : goal.loop-description-init
 loop-description-init c =
     let whole : c.into_iter-description-iterator.result ≡ fin.entries c.args.self.now.by_key =
-    c.into_iter-description-iterator.ensures.into_iter_gives ∙ c.iter-description-items.ensures.rest ∙ sym (entries-described c.self.inside.slots.slots)
+    c.into_iter-description-iterator.ensures.into_iter_gives ∙ c.iter-description-items.ensures.rest
+    ∙ sym (entries-described c.self.inside.slots.slots)
     ∙ ap (λ (m : DescriptionMap). fin.entries m.by_key) c.self.view_is in
     record {
       can_next = tt;

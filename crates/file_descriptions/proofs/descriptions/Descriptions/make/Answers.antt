@@ -11,6 +11,10 @@ invariant_of-self c =
     let before : DescriptionMap = record { by_key = described c.self.inside.slots.slots; made = c.self.inside.made } in
     let new : Description = new_description c.args.node c.args.end c.args.access c.args.flags c.self.inside.made in
     let key = c.insert_reserved.result in
-    let free : fin.get before.by_key key ≡ None = get-described c.self.inside.slots.slots key ∙ c.insert_reserved.ensures.was_vacant in
-    let room : fin.len before.by_key < 32 = omega (arith, len-described c.self.inside.slots.slots) in
-    (rw (described-insert c.self.inside.slots c.insert_reserved.new.self key new c.insert_reserved.ensures.updates) (AreSound-new before key new c.self.invariant.0 free room refl refl), omega arith)
+    let free : fin.get before.by_key key ≡ None = get-described c.self.inside.slots.slots key
+    ∙ c.insert_reserved.ensures.was_vacant in
+    let room : fin.len before.by_key < 32 = omega (arith, len-described c.self.inside.slots.slots) in (
+      rw (described-insert c.self.inside.slots c.insert_reserved.new.self key new c.insert_reserved.ensures.updates)
+          (AreSound-new before key new c.self.invariant.0 free room refl refl),
+      omega arith,
+    )

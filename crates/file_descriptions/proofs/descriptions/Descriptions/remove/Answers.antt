@@ -6,5 +6,9 @@ use Rattle.file_descriptions.proofs.descriptions.Descriptions.remove.Goals as go
 
 pub invariant_of-self : goal.invariant_of-self
 invariant_of-self c =
-    let before : DescriptionMap = record { by_key = described c.self.inside.slots.slots; made = c.self.inside.made } in
-    (rw (described-remove c.self.inside.slots c.remove.new.self c.args.key c.remove.ensures.updates) (AreSound-removed before c.args.key c.self.invariant.0), omega arith)
+    let inside = c.self.inside in
+    let before : DescriptionMap = record { by_key = described inside.slots.slots; made = inside.made } in (
+      rw (described-remove c.self.inside.slots c.remove.new.self c.args.key c.remove.ensures.updates)
+          (AreSound-removed before c.args.key c.self.invariant.0),
+      omega arith,
+    )
