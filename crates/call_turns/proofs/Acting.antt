@@ -1,12 +1,14 @@
 -- An act that reads or writes an object ends in the store as in the state that it stands for.
-use Rattle.std.proofs.Common.{◌≡◌, ℕ, ◌+◌, ◌==◌, nat_le, List, [], length, unwrap_or, Result, Ok, Err, Option, Some, None, is_some, Bool, true, false, if◌then◌else◌, refl, sym, ap, ◌∙◌, subst, arith}
+use Rattle.std.proofs.Common.{◌≡◌, ℕ, ◌+◌, ◌==◌, nat_le, List, [], length, unwrap_or, Result, Ok, Err, Option, Some}
+use Rattle.std.proofs.Common.{None, is_some, Bool, true, false, if◌then◌else◌, refl, sym, ap, ◌∙◌, subst, arith}
 use Rattle.std.proofs.lemmas.Bool.{false≢true}
 use Rattle.std.specs.FinMap as fin
 use Rattle.std.specs.Option.{option_map}
 use Rattle.sequential_object.specs.Descriptors as posix
 use Rattle.sequential_object.specs.Object as object
 use Rattle.sequential_object.specs.Object.{State, Content, DoorTo, File, Pair, Pipe, content_of}
-use Rattle.sequential_object.specs.Streams.{Breaks, Ends, NoRoom, NothingYet, PairState, Reading, Reads, Writes, Writing}
+use Rattle.sequential_object.specs.Streams.{Breaks, Ends, NoRoom, NothingYet, PairState, Reading, Reads, Writes}
+use Rattle.sequential_object.specs.Streams.{Writing}
 use Rattle.sequential_object.specs.Worlds.{World}
 use Rattle.posix_terms.specs.Calls.{Call}
 use Rattle.posix_terms.specs.Ends.{peer_of, side_of}
@@ -15,7 +17,9 @@ use Rattle.posix_terms.specs.declared.object.End.{End}
 use Rattle.posix_terms.specs.declared.object.End.TheVariants as part
 use Rattle.posix_terms.specs.declared.call.Call.TheVariants as call
 use Rattle.file_descriptions.specs.Descriptions.{description_at}
-use Rattle.sequential_object.specs.Acts.{Acted, Blocks, Ending, Replies, acted, blocked, blocked_after, concludes, has_read, has_written, holds, pipe_written, read_acted, replies, sought, wrote, write_acted}
+use Rattle.sequential_object.specs.Acts.{Acted, Blocks, Ending, Replies, acted, blocked, blocked_after, concludes}
+use Rattle.sequential_object.specs.Acts.{has_read, has_written, holds, pipe_written, read_acted, replies, sought, wrote}
+use Rattle.sequential_object.specs.Acts.{write_acted}
 use Rattle.sequential_object.specs.Effects.{nothing_moved}
 use Rattle.sequential_object.specs.Files.{written}
 use Rattle.sequential_object.specs.Acts.{moved_by}
@@ -40,7 +44,8 @@ use Rattle.call_turns.proofs.Putting.{IsAlike, IsKnown}
 
 -- ## What the object of an act holds
 
-is_held : (same : (one other : Door) → same_door one other ≡ true → other ≡ one) (e : End) (c : Content) (k : Kept) → is_of e c ≡ true
+is_held : (same : (one other : Door) → same_door one other ≡ true → other ≡ one) (e : End) (c : Content) (k : Kept)
+    → is_of e c ≡ true
     → kept_as c k ≡ held_by e k
 is_held same part.Only (File bytes) k is = refl
 is_held same part.Read (Pipe bytes) k is = refl
@@ -90,7 +95,8 @@ module _ (law : TableFollows) (h : Stored) (w : World) (st : Stands h w) where
         → content_of w.object (birth_at h.table node) ≡ held_by e (kept_at h node)
     held_is e its =
         let at = birth_is h.table node used in
-        let got = some_content (fin.get w.object.objects (birth_at h.table node)) (st.shows.objects node (birth_at h.table node) at) in
+        let got = some_content (fin.get w.object.objects (birth_at h.table node))
+        (st.shows.objects node (birth_at h.table node) at) in
         st.contents node (birth_at h.table node) at (content_of w.object (birth_at h.table node)) got
         ∙ is_held law.doors e (content_of w.object (birth_at h.table node)) (kept_at h node) its
 
@@ -102,23 +108,31 @@ module _ (law : TableFollows) (h : Stored) (w : World) (st : Stands h w) where
   there at its = law.seen h.table at st.sound its
 
   -- the object of a description that was seen
-  end_at : (at : Seen) (node : ℕ) → IsSeen (view h.table) at → at.object ≡ node → is_of at.«end» (content_of w.object (birth_at h.table node)) ≡ true
+  end_at : (at : Seen) (node : ℕ) → IsSeen (view h.table) at → at.object ≡ node
+      → is_of at.«end» (content_of w.object (birth_at h.table node)) ≡ true
   end_at at node its is =
       let known : IsThere h.table at = there at its in
-      subst (λ (n : ℕ). is_of at.«end» (content_of w.object (birth_at h.table n)) ≡ true) is (known.ends w.object st.shows)
+      subst (λ (n : ℕ). is_of at.«end» (content_of w.object (birth_at h.table n)) ≡ true) is
+      (known.ends w.object st.shows)
 
   used_at : (at : Seen) (node : ℕ) → IsSeen (view h.table) at → at.object ≡ node → is_used h.table node ≡ true
-  used_at at node its is = let known : IsThere h.table at = there at its in subst (λ (n : ℕ). is_used h.table n ≡ true) is known.used
+  used_at at node its is = let known : IsThere h.table at = there at its in
+      subst (λ (n : ℕ). is_used h.table n ≡ true) is known.used
 
-  file_at : (at : Seen) (node : ℕ) → IsFile (view h.table) node at → is_of part.Only (content_of w.object (birth_at h.table node)) ≡ true
-  file_at at node file = subst (λ (e : End). is_of e (content_of w.object (birth_at h.table node)) ≡ true) file.only (end_at at node file.found file.object_is)
+  file_at : (at : Seen) (node : ℕ) → IsFile (view h.table) node at
+      → is_of part.Only (content_of w.object (birth_at h.table node)) ≡ true
+  file_at at node file = subst (λ (e : End). is_of e (content_of w.object (birth_at h.table node)) ≡ true) file.only
+      (end_at at node file.found file.object_is)
 
   -- its birth
-  offset_at : (at : Seen) → IsSeen (view h.table) at → offset_in (description_of w.object (Some (birth_of h.table at.key))) ≡ offset_of_key h at.key
+  offset_at : (at : Seen) → IsSeen (view h.table) at
+      → offset_in (description_of w.object (Some (birth_of h.table at.key))) ≡ offset_of_key h at.key
   offset_at at its =
       let known : IsThere h.table at = there at its in
-      let got : fin.get h.table.descriptions.by_key at.key ≡ Some (description_at h.table.descriptions at.key) = known_at h.table.descriptions at.key known.key in
-      ap (λ (o : Option object.Description). offset_in o) (st.shows.descriptions at.key (description_at h.table.descriptions at.key) got)
+      let got : fin.get h.table.descriptions.by_key at.key ≡ Some (description_at h.table.descriptions at.key) =
+      known_at h.table.descriptions at.key known.key in
+      ap (λ (o : Option object.Description). offset_in o)
+      (st.shows.descriptions at.key (description_at h.table.descriptions at.key) got)
 
   -- ## What holds of the object of each act
 
@@ -154,11 +168,14 @@ module _ (law : TableFollows) (h : Stored) (w : World) (st : Stands h w) where
       }
 
   pub ready : (c : Call) (node : ℕ) (a : Act) → ReadsOrWrites a → CanAct (view h.table) c node a → Ready node a
-  ready c node (act.Read from count) its can = by_seen from node (act.Read from count) refl can.0.found can.0.object_is refl
+  ready c node (act.Read from count) its can = by_seen from node (act.Read from count) refl can.0.found can.0.object_is
+      refl
   ready c node (act.Write to before) its can = by_seen to node (act.Write to before) refl can.found can.object_is refl
-  ready c node (act.Pread count position) its can = by_file can.0.at node (act.Pread count position) refl can.0.file refl
+  ready c node (act.Pread count position) its can = by_file can.0.at node (act.Pread count position) refl can.0.file
+      refl
   ready c node (act.Pwrite position) its can = by_file can.at node (act.Pwrite position) refl can.file refl
-  ready c node (act.Lseek at) its can = by_seen at node (act.Lseek at) refl can.found can.object_is (ap (λ (e : End). held_by e (kept_at h node)) can.only)
+  ready c node (act.Lseek at) its can = by_seen at node (act.Lseek at) refl can.found can.object_is
+      (ap (λ (e : End). held_by e (kept_at h node)) can.only)
   ready c node (act.Ftruncate size) its can = by_file can.0.at node (act.Ftruncate size) refl can.0.file refl
   ready c node (act.Fstat links) its can = by_file can.at node (act.Fstat links) refl can.file refl
   ready c node (act.Shutdown side how) its can =
@@ -168,7 +185,8 @@ module _ (law : TableFollows) (h : Stored) (w : World) (st : Stands h w) where
         known = tt;
         content =
             held_is node used (part.Socket side)
-            (subst (λ (e : End). is_of e (content_of w.object (birth_at h.table node)) ≡ true) can.socket (end_at can.at node can.found can.object_is));
+            (subst (λ (e : End). is_of e (content_of w.object (birth_at h.table node)) ≡ true) can.socket
+            (end_at can.at node can.found can.object_is));
         offset = refl;
       }
   ready c node (act.Open n cut) its can = absurd its
@@ -183,12 +201,15 @@ module _ (law : TableFollows) (h : Stored) (w : World) (st : Stands h w) where
   Open node which = is_open h.table node which
 
   pub acts_alike : (c : Call) (node : ℕ) (a : Act) (offset : ℕ) → ReadsOrWrites a → is_used h.table node ≡ true
-      → acted (posix.has_end w.object (birth_at h.table node)) (act_by (names_of h.table) a) c (content_of w.object (birth_at h.table node)) offset
+      → acted (posix.has_end w.object (birth_at h.table node)) (act_by (names_of h.table) a) c
+      (content_of w.object (birth_at h.table node)) offset
       ≡ acted (is_open h.table node) a c (content_of w.object (birth_at h.table node)) offset
-  acts_alike c node (act.Read from count) offset its used = by_content (content_of w.object (birth_at h.table node)) refl
+  acts_alike c node (act.Read from count) offset its used = by_content (content_of w.object (birth_at h.table node))
+      refl
     where
       by_content : (content : Content) → content_of w.object (birth_at h.table node) ≡ content
-          → acted (posix.has_end w.object (birth_at h.table node)) (act_by (names_of h.table) (act.Read from count)) c content offset
+          → acted (posix.has_end w.object (birth_at h.table node)) (act_by (names_of h.table) (act.Read from count)) c
+          content offset
           ≡ acted (is_open h.table node) (act.Read from count) c content offset
       by_content (File file) is = refl
       by_content (Pipe waiting) is = rw (same_end node used part.Write (ap (is_of part.Write) is)) grind arith
@@ -196,10 +217,12 @@ module _ (law : TableFollows) (h : Stored) (w : World) (st : Stands h w) where
           let peer = part.Socket (peer_of (side_of from.«end»)) in
           rw (same_end node used peer (ap (is_of peer) is)) grind arith
       by_content (DoorTo door) is = refl
-  acts_alike c node (act.Write to before) offset its used = by_content (content_of w.object (birth_at h.table node)) refl
+  acts_alike c node (act.Write to before) offset its used = by_content (content_of w.object (birth_at h.table node))
+      refl
     where
       by_content : (content : Content) → content_of w.object (birth_at h.table node) ≡ content
-          → acted (posix.has_end w.object (birth_at h.table node)) (act_by (names_of h.table) (act.Write to before)) c content offset
+          → acted (posix.has_end w.object (birth_at h.table node)) (act_by (names_of h.table) (act.Write to before)) c
+          content offset
           ≡ acted (is_open h.table node) (act.Write to before) c content offset
       by_content (File file) is = grind arith
       by_content (Pipe waiting) is =
@@ -251,26 +274,37 @@ tame_blocked at content = by_flag at.nonblock
     by_flag true = tame_concludes (Replies (reply.Fail EAGAIN)) content
     by_flag false = tame_concludes (Blocks nothing_moved) content
 
-tame_holds : (ending : Ending) (new content : Content) → HasEndsOf new content → ((e : Errno) → ending ≡ Replies (reply.Fail e) → ⊥) → IsTame content (holds ending new)
+tame_holds : (ending : Ending) (new content : Content) → HasEndsOf new content
+    → ((e : Errno) → ending ≡ Replies (reply.Fail e) → ⊥) → IsTame content (holds ending new)
 tame_holds ending new content alike goes_on = (alike, λ e is. absurd (goes_on e is))
 
-tame_read : (from : Seen) (left : List ℕ → Content) (r : Reading) (content : Content) → ((bytes : List ℕ) → HasEndsOf (left bytes) content) → IsTame content (has_read from left r)
-tame_read from left (Reads bytes rest) content alike = tame_holds (Replies (reply.Data bytes)) (left rest) content (alike rest) (λ e is. cc)
+tame_read : (from : Seen) (left : List ℕ → Content) (r : Reading) (content : Content)
+    → ((bytes : List ℕ) → HasEndsOf (left bytes) content) → IsTame content (has_read from left r)
+tame_read from left (Reads bytes rest) content alike = tame_holds (Replies (reply.Data bytes)) (left rest) content
+    (alike rest) (λ e is. cc)
 tame_read from left Ends content alike = tame_concludes (Replies (reply.Data [])) content
 tame_read from left NothingYet content alike = tame_blocked from content
 
-tame_written : (to : Seen) (left : List ℕ → Content) (count : ℕ) (r : Writing) (content : Content) → ((bytes : List ℕ) → HasEndsOf (left bytes) content) → IsTame content (has_written to left count r)
-tame_written to left count (Writes rest) content alike = tame_holds (Replies (reply.Count count)) (left rest) content (alike rest) (λ e is. cc)
+tame_written : (to : Seen) (left : List ℕ → Content) (count : ℕ) (r : Writing) (content : Content)
+    → ((bytes : List ℕ) → HasEndsOf (left bytes) content) → IsTame content (has_written to left count r)
+tame_written to left count (Writes rest) content alike = tame_holds (Replies (reply.Count count)) (left rest) content
+    (alike rest) (λ e is. cc)
 tame_written to left count Breaks content alike = tame_concludes (Replies (reply.Fail EPIPE)) content
 tame_written to left count NoRoom content alike = tame_blocked to content
 
-tame_pipe : (to : Seen) (all before now : ℕ) (r : Writing) (waiting : List ℕ) → IsTame (Pipe waiting) (pipe_written to all before now r)
+tame_pipe : (to : Seen) (all before now : ℕ) (r : Writing) (waiting : List ℕ)
+    → IsTame (Pipe waiting) (pipe_written to all before now r)
 tame_pipe to all before now (Writes rest) waiting = by_tests (nat_le all (before + now)) to.nonblock
   where
-    by_tests : (b n : Bool) → IsTame (Pipe waiting) (holds (if b then Replies (reply.Count (before + now)) else if n then Replies (reply.Count (before + now)) else Blocks (moved_by to.birth (before + now))) (Pipe rest))
-    by_tests true n = tame_holds (Replies (reply.Count (before + now))) (Pipe rest) (Pipe waiting) (alike_pipe rest waiting) (λ e is. cc)
-    by_tests false true = tame_holds (Replies (reply.Count (before + now))) (Pipe rest) (Pipe waiting) (alike_pipe rest waiting) (λ e is. cc)
-    by_tests false false = tame_holds (Blocks (moved_by to.birth (before + now))) (Pipe rest) (Pipe waiting) (alike_pipe rest waiting) (λ e is. cc)
+    by_tests : (b n : Bool) → IsTame (Pipe waiting)
+        (holds (if b then Replies (reply.Count (before + now)) else if n then Replies (reply.Count (before + now))
+        else Blocks (moved_by to.birth (before + now))) (Pipe rest))
+    by_tests true n = tame_holds (Replies (reply.Count (before + now))) (Pipe rest) (Pipe waiting)
+        (alike_pipe rest waiting) (λ e is. cc)
+    by_tests false true = tame_holds (Replies (reply.Count (before + now))) (Pipe rest) (Pipe waiting)
+        (alike_pipe rest waiting) (λ e is. cc)
+    by_tests false false = tame_holds (Blocks (moved_by to.birth (before + now))) (Pipe rest) (Pipe waiting)
+        (alike_pipe rest waiting) (λ e is. cc)
 tame_pipe to all before now Breaks waiting = tame_concludes _ (Pipe waiting)
 tame_pipe to all before now NoRoom waiting = by_test (before == 0)
   where
@@ -282,7 +316,8 @@ tame_wrote : (r : Result (List ℕ × ℕ) Errno) (to : ℕ → Option ℕ) (fil
 tame_wrote (Ok w) to file = (alike_file w.0 file, λ e is. cc)
 tame_wrote (Err e) to file = tame_concludes (Replies (reply.Fail e)) (File file)
 
-tame_write : (none : Bool) (done : Acted) (content : Content) → IsTame content done → IsTame content (if none then replies (reply.Count 0) else done)
+tame_write : (none : Bool) (done : Acted) (content : Content) → IsTame content done
+    → IsTame content (if none then replies (reply.Count 0) else done)
 tame_write true done content tame = tame_concludes (Replies (reply.Count 0)) content
 tame_write false done content tame = tame
 
@@ -293,22 +328,29 @@ tame_sought (Err e) content = tame_concludes (Replies (reply.Fail e)) content
 done_tame : (content : Content) → IsTame content (replies reply.Done)
 done_tame content = tame_concludes (Replies reply.Done) content
 
-read_tame : (has_end : End → Bool) (from : Seen) (count : ℕ) (content : Content) (offset : ℕ) → IsTame content (read_acted has_end from count content offset)
+read_tame : (has_end : End → Bool) (from : Seen) (count : ℕ) (content : Content) (offset : ℕ)
+    → IsTame content (read_acted has_end from count content offset)
 read_tame has_end from count (File file) offset = (tt, λ e is. cc)
-read_tame has_end from count (Pipe waiting) offset = tame_read from Pipe _ (Pipe waiting) (λ bytes. alike_pipe bytes waiting)
+read_tame has_end from count (Pipe waiting) offset =
+    tame_read from Pipe _ (Pipe waiting) (λ bytes. alike_pipe bytes waiting)
 read_tame has_end from count (Pair p) offset = tame_read from _ _ (Pair p) (λ bytes. alike_pair _ p)
 read_tame has_end from count (DoorTo door) offset = done_tame (DoorTo door)
 
-write_tame : (has_end : End → Bool) (to : Seen) (bytes : List ℕ) (before : ℕ) (content : Content) (offset : ℕ) → IsTame content (write_acted has_end to bytes before content offset)
+write_tame : (has_end : End → Bool) (to : Seen) (bytes : List ℕ) (before : ℕ) (content : Content) (offset : ℕ)
+    → IsTame content (write_acted has_end to bytes before content offset)
 write_tame has_end to bytes before (File file) offset =
-    tame_write (length bytes == 0) _ (File file) (tame_wrote (written file (if to.append then length file else offset) bytes) _ file)
+    tame_write (length bytes == 0) _ (File file)
+    (tame_wrote (written file (if to.append then length file else offset) bytes) _ file)
 write_tame has_end to bytes before (Pipe waiting) offset = tame_pipe to (length bytes) before _ _ waiting
-write_tame has_end to bytes before (Pair p) offset = tame_written to _ (length bytes) _ (Pair p) (λ rest. alike_pair _ p)
+write_tame has_end to bytes before (Pair p) offset =
+    tame_written to _ (length bytes) _ (Pair p) (λ rest. alike_pair _ p)
 write_tame has_end to bytes before (DoorTo door) offset = done_tame (DoorTo door)
 
-pub acts_tame : (has_end : End → Bool) (a : Act) (c : Call) (content : Content) (offset : ℕ) → ReadsOrWrites a → IsTame content (acted has_end a c content offset)
+pub acts_tame : (has_end : End → Bool) (a : Act) (c : Call) (content : Content) (offset : ℕ) → ReadsOrWrites a
+    → IsTame content (acted has_end a c content offset)
 acts_tame has_end (act.Read from count) c content offset its = read_tame has_end from count content offset
-acts_tame has_end (act.Write to before) (call.Write descriptor bytes) content offset its = write_tame has_end to bytes before content offset
+acts_tame has_end (act.Write to before) (call.Write descriptor bytes) content offset its =
+    write_tame has_end to bytes before content offset
 acts_tame has_end (act.Write to before) c content offset its = done_tame content
 acts_tame has_end (act.Pread count position) c (File file) offset its = tame_concludes _ (File file)
 acts_tame has_end (act.Pread count position) c content offset its = done_tame content

@@ -1,5 +1,6 @@
 -- A change of a call, in the table and in the body of a new object.
-use Rattle.std.proofs.Common.{◌≡◌, ◌≢◌, ◌⊎◌, ℕ, ◌<◌, [], length, Option, Some, None, is_some, inl, inr, refl, sym, ap, ◌∙◌, subst, arith}
+use Rattle.std.proofs.Common.{◌≡◌, ◌≢◌, ◌⊎◌, ℕ, ◌<◌, [], length, Option, Some, None, is_some, inl, inr, refl, sym, ap}
+use Rattle.std.proofs.Common.{◌∙◌, subst, arith}
 use Rattle.std.proofs.lemmas.Bool.{false≢true}
 use Rattle.std.proofs.lemmas.List.{get_or-set_same, get_or-set_other}
 use Rattle.std.proofs.lemmas.Option.{none-some, same_Some}
@@ -40,56 +41,72 @@ not_below n l = omega arith
 
 module _ (h : Stored) (w : World) (st : Stands h w) (u : TableState) (after : State) (m : Leaves h.table u after) where
   -- an object that was there is not the next one
-  was_there : (k b : ℕ) (content : Content) → slice_index_or u.objects k None ≡ Some b → fin.get w.object.objects b ≡ Some content
+  was_there : (k b : ℕ) (content : Content) → slice_index_or u.objects k None ≡ Some b
+      → fin.get w.object.objects b ≡ Some content
       → slice_index_or h.table.objects k None ≡ Some b
   was_there k b content is was = by_number (m.numbers.numbers k b is)
     where
-      by_number : (slice_index_or h.table.objects k None ≡ Some b) ⊎ ((free_object h.table ≡ Some k) × (b ≡ h.table.made_objects))
+      by_number : (slice_index_or h.table.objects k None ≡ Some b)
+          ⊎ ((free_object h.table ≡ Some k) × (b ≡ h.table.made_objects))
           → slice_index_or h.table.objects k None ≡ Some b
       by_number (inl had) = had
       by_number (inr new) =
-          absurd (false≢true (sym (next_is_new h w st) ∙ ap (λ (o : Option Content). is_some o) (ap (fin.get w.object.objects) (sym new.1) ∙ was)))
+          absurd (false≢true (sym (next_is_new h w st)
+          ∙ ap (λ (o : Option Content). is_some o) (ap (fin.get w.object.objects) (sym new.1) ∙ was)))
 
   -- and the next one is under the next number
-  is_next : (k b : ℕ) → slice_index_or u.objects k None ≡ Some b → b ≡ w.object.next_object → free_object h.table ≡ Some k
+  is_next : (k b : ℕ) → slice_index_or u.objects k None ≡ Some b → b ≡ w.object.next_object
+      → free_object h.table ≡ Some k
   is_next k b is next = by_number (m.numbers.numbers k b is)
     where
-      by_number : (slice_index_or h.table.objects k None ≡ Some b) ⊎ ((free_object h.table ≡ Some k) × (b ≡ h.table.made_objects)) → free_object h.table ≡ Some k
+      by_number : (slice_index_or h.table.objects k None ≡ Some b)
+          ⊎ ((free_object h.table ≡ Some k) × (b ≡ h.table.made_objects)) → free_object h.table ≡ Some k
       by_number (inl had) =
-          absurd (not_below h.table.made_objects (subst (λ (n : ℕ). n < h.table.made_objects) (next ∙ st.shows.next_object) (st.sound.born k b had)))
+          absurd (not_below h.table.made_objects
+          (subst (λ (n : ℕ). n < h.table.made_objects) (next ∙ st.shows.next_object) (st.sound.born k b had)))
       by_number (inr new) = new.0
 
   -- where no object is made
-  pub stands_kept : ((b : ℕ) (content : Content) → fin.get after.objects b ≡ Some content → fin.get w.object.objects b ≡ Some content)
+  pub stands_kept : ((b : ℕ) (content : Content) → fin.get after.objects b ≡ Some content
+      → fin.get w.object.objects b ≡ Some content)
       → Stands (record { table = u; bodies = h.bodies }) (world_with w after)
   stands_kept kept =
       stands_by h w st u after m h.bodies (λ k b is content got.
       st.contents k b (was_there k b content is (kept b content got)) content (kept b content got))
 
   -- where an object is made that holds this
-  pub stands_made : (node : ℕ) (made : Content) → free_object h.table ≡ Some node → slice_index_or h.table.objects node None ≡ None → node < length h.bodies
-      → ((b : ℕ) (content : Content) → fin.get after.objects b ≡ Some content → (fin.get w.object.objects b ≡ Some content) ⊎ ((b ≡ w.object.next_object) × (content ≡ made)))
+  pub stands_made : (node : ℕ) (made : Content) → free_object h.table ≡ Some node
+      → slice_index_or h.table.objects node None ≡ None → node < length h.bodies
+      → ((b : ℕ) (content : Content) → fin.get after.objects b ≡ Some content
+      → (fin.get w.object.objects b ≡ Some content) ⊎ ((b ≡ w.object.next_object) × (content ≡ made)))
       → Stands (record { table = u; bodies = emptied h.bodies node made }) (world_with w after)
   stands_made node made free none inside came =
-      stands_by h w st u after m (emptied h.bodies node made) (λ k b is content got. by_came k b is content (came b content got))
+      stands_by h w st u after m (emptied h.bodies node made)
+      (λ k b is content got. by_came k b is content (came b content got))
     where
       by_came : (k b : ℕ) → slice_index_or u.objects k None ≡ Some b → (content : Content)
           → (fin.get w.object.objects b ≡ Some content) ⊎ ((b ≡ w.object.next_object) × (content ≡ made))
           → content ≡ kept_as content (slice_index_or (emptied h.bodies node made) k first_kept)
       by_came k b is content (inl was) =
           let had = was_there k b content is was in
-          let apart : k ≢ node = λ same. none-some b (sym none ∙ ap (λ (i : ℕ). slice_index_or h.table.objects i None) (sym same) ∙ had) in
+          let apart : k ≢ node = λ same. none-some b
+          (sym none ∙ ap (λ (i : ℕ). slice_index_or h.table.objects i None) (sym same) ∙ had) in
           st.contents k b had content was
-          ∙ ap (kept_as content) (sym (get_or-set_other h.bodies node k (keeping made (kept_at h node)) first_kept apart))
+          ∙ ap (kept_as content) (sym (get_or-set_other h.bodies node k (keeping made (kept_at h node)) first_kept
+          apart))
       by_came k b is content (inr (next, holds)) =
           let here : k ≡ node = same_Some k node (sym (is_next k b is next) ∙ free) in
           subst (λ (c : Content). c ≡ kept_as c (slice_index_or (emptied h.bodies node made) k first_kept)) (sym holds)
           (kept_own made (kept_at h node)
-          ∙ ap (kept_as made) (sym (ap (λ (i : ℕ). slice_index_or (emptied h.bodies node made) i first_kept) here ∙ get_or-set_same h.bodies node (keeping made (kept_at h node)) first_kept inside)))
+          ∙ ap (kept_as made) (sym (ap (λ (i : ℕ). slice_index_or (emptied h.bodies node made) i first_kept) here
+          ∙ get_or-set_same h.bodies node (keeping made (kept_at h node)) first_kept inside)))
 
-module _ (law : TableFollows) (h : Stored) (w : World) (st : Stands h w) (long : length h.bodies ≡ limit.OBJECTS) (c : Call) where
-  made_at : (u : TableState) (node : ℕ) (made : Content) (after : State) → Leaves h.table u after → free_object h.table ≡ Some node
-      → ((b : ℕ) (content : Content) → fin.get after.objects b ≡ Some content → (fin.get w.object.objects b ≡ Some content) ⊎ ((b ≡ w.object.next_object) × (content ≡ made)))
+module _ (law : TableFollows) (h : Stored) (w : World) (st : Stands h w) (long : length h.bodies ≡ limit.OBJECTS)
+    (c : Call) where
+  made_at : (u : TableState) (node : ℕ) (made : Content) (after : State) → Leaves h.table u after
+      → free_object h.table ≡ Some node
+      → ((b : ℕ) (content : Content) → fin.get after.objects b ≡ Some content
+      → (fin.get w.object.objects b ≡ Some content) ⊎ ((b ≡ w.object.next_object) × (content ≡ made)))
       → Stands (record { table = u; bodies = emptied h.bodies node made }) (world_with w after)
   made_at u node made after m free came =
       let next : IsNextObject h.table node = law.next h.table node free in
@@ -102,52 +119,69 @@ module _ (law : TableFollows) (h : Stored) (w : World) (st : Stands h w) (long :
 
   -- of a change that makes no object
   not_made : (x : Change) → ((content : Content) → MadeBy (named x) content → ⊥)
-      → (b : ℕ) (content : Content) → fin.get (changed w.object c (named x)).objects b ≡ Some content → fin.get w.object.objects b ≡ Some content
+      → (b : ℕ) (content : Content) → fin.get (changed w.object c (named x)).objects b ≡ Some content
+      → fin.get w.object.objects b ≡ Some content
   not_made x none b content is =
       elim (contents_stay w.object c (named x) b content is) [
         | inl was ↦ was
         | inr new ↦ absurd (none content new.1)
       ]
 
-  same_bodies : (u : TableState) (x : Change) → ((content : Content) → MadeBy (named x) content → ⊥) → Leaves h.table u (changed w.object c (named x))
+  same_bodies : (u : TableState) (x : Change) → ((content : Content) → MadeBy (named x) content → ⊥)
+      → Leaves h.table u (changed w.object c (named x))
       → Stands (record { table = u; bodies = h.bodies }) (world_with w (changed w.object c (named x)))
   same_bodies u x none m = stands_kept h w st u (changed w.object c (named x)) m (not_made x none)
 
-  pub stands_changed : (u : TableState) (x : Change) → Can (view h.table) c x → Leaves h.table u (changed w.object c (change_by (names_of h.table) x))
-      → Stands (record { table = u; bodies = cleared h.bodies x }) (world_with w (changed w.object c (change_by (names_of h.table) x)))
+  pub stands_changed : (u : TableState) (x : Change) → Can (view h.table) c x
+      → Leaves h.table u (changed w.object c (change_by (names_of h.table) x))
+      → Stands (record { table = u; bodies = cleared h.bodies x })
+      (world_with w (changed w.object c (change_by (names_of h.table) x)))
   stands_changed u (change.MakeFile new) can m =
-      made_at u new.object (File []) _ m can.1 (contents_stay w.object c (change_by (names_of h.table) (change.MakeFile new)))
+      made_at u new.object (File []) _ m can.1
+      (contents_stay w.object c (change_by (names_of h.table) (change.MakeFile new)))
   stands_changed u (change.MakePipe new) can m =
-      made_at u new.object (Pipe []) _ m can.next (contents_stay w.object c (change_by (names_of h.table) (change.MakePipe new)))
+      made_at u new.object (Pipe []) _ m can.next
+      (contents_stay w.object c (change_by (names_of h.table) (change.MakePipe new)))
   stands_changed u (change.MakeSockets new) can m =
-      made_at u new.object (Pair new_pair) _ m can.next (contents_stay w.object c (change_by (names_of h.table) (change.MakeSockets new)))
+      made_at u new.object (Pair new_pair) _ m can.next
+      (contents_stay w.object c (change_by (names_of h.table) (change.MakeSockets new)))
   stands_changed u change.Nothing can m = same_bodies u change.Nothing (λ content never. never) m
   stands_changed u (change.Share n key) can m = same_bodies u (change.Share n key) (λ content never. never) m
   stands_changed u (change.Close n key) can m = same_bodies u (change.Close n key) (λ content never. never) m
-  stands_changed u (change.Replace n old_key key) can m = same_bodies u (change.Replace n old_key key) (λ content never. never) m
-  stands_changed u (change.SetFlags key append nonblock) can m = same_bodies u (change.SetFlags key append nonblock) (λ content never. never) m
+  stands_changed u (change.Replace n old_key key) can m =
+      same_bodies u (change.Replace n old_key key) (λ content never. never) m
+  stands_changed u (change.SetFlags key append nonblock) can m = same_bodies u (change.SetFlags key append nonblock)
+      (λ content never. never) m
   stands_changed u (change.AddFile object) can m = same_bodies u (change.AddFile object) (λ content never. never) m
   stands_changed u change.AddDirectory can m = same_bodies u change.AddDirectory (λ content never. never) m
-  stands_changed u (change.RemoveFile object) can m = same_bodies u (change.RemoveFile object) (λ content never. never) m
+  stands_changed u (change.RemoveFile object) can m = same_bodies u (change.RemoveFile object) (λ content never. never)
+      m
   stands_changed u change.RemoveDirectory can m = same_bodies u change.RemoveDirectory (λ content never. never) m
-  stands_changed u (change.Rename object lost) can m = same_bodies u (change.Rename object lost) (λ content never. never) m
+  stands_changed u (change.Rename object lost) can m =
+      same_bodies u (change.Rename object lost) (λ content never. never) m
   stands_changed u (change.OpenFile new) can m = same_bodies u (change.OpenFile new) (λ content never. never) m
 
   -- a door that was opened outside
   pub stands_opened : (u : TableState) (new : NewDescriptor) (value : ℕ) → free_object h.table ≡ Some new.object
       → Leaves h.table u (door_opened w.object c (new_by (names_of h.table) new) value)
-      → Stands (record { table = u; bodies = h.bodies }) (world_with w (door_opened w.object c (new_by (names_of h.table) new) value))
+      → Stands (record { table = u; bodies = h.bodies })
+      (world_with w (door_opened w.object c (new_by (names_of h.table) new) value))
   stands_opened u new value free m =
-      stands_by h w st u _ m h.bodies (λ k b is content got. by_put k b is content (put_at w.object.objects w.object.next_object (DoorTo (door_of c value)) b content got))
+      stands_by h w st u _ m h.bodies
+      (λ k b is content got. by_put k b is content
+      (put_at w.object.objects w.object.next_object (DoorTo (door_of c value)) b content got))
     where
       by_put : (k b : ℕ) → slice_index_or u.objects k None ≡ Some b → (content : Content)
-          → ((b ≡ w.object.next_object) × (DoorTo (door_of c value) ≡ content)) ⊎ ((b ≢ w.object.next_object) × (fin.get w.object.objects b ≡ Some content))
+          → ((b ≡ w.object.next_object) × (DoorTo (door_of c value) ≡ content))
+          ⊎ ((b ≢ w.object.next_object) × (fin.get w.object.objects b ≡ Some content))
           → content ≡ kept_as content (kept_at h k)
       by_put k b is content (inl (at, same)) = subst (λ (x : Content). x ≡ kept_as x (kept_at h k)) same refl
       by_put k b is content (inr (apart, was)) = st.contents k b (was_there h w st u _ m k b content is was) content was
 
 pub inside : (law : TableFollows) (t : TableState) (c : Call) (x : Change) → Can (view t) c x → IsInside x
 inside law t c (change.MakeFile new) can = let next : IsNextObject t new.object = law.next t new.object can.1 in next.0
-inside law t c (change.MakePipe new) can = let next : IsNextObject t new.object = law.next t new.object can.next in next.0
-inside law t c (change.MakeSockets new) can = let next : IsNextObject t new.object = law.next t new.object can.next in next.0
+inside law t c (change.MakePipe new) can = let next : IsNextObject t new.object = law.next t new.object can.next in
+    next.0
+inside law t c (change.MakeSockets new) can = let next : IsNextObject t new.object = law.next t new.object can.next in
+    next.0
 inside law t c x can = tt

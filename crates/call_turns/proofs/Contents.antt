@@ -35,9 +35,11 @@ kept_closed : (s : State) (n key : ℕ) (d : Option Description) → Kept s (clo
 kept_closed s n key None = λ b content is. is
 kept_closed s n key (Some d) =
     cond_both (posix.has_descriptor (posix.freed s (pos n)) key) _ _ (Kept s) (λ held b content is. is)
-    (λ free. kept_unused s (record (posix.freed s (pos n)) { descriptions = fin.remove s.descriptions key }) d.object (λ b content is. is))
+    (λ free. kept_unused s (record (posix.freed s (pos n)) { descriptions = fin.remove s.descriptions key }) d.object
+    (λ b content is. is))
 
-kept_flagged : (s : State) (key : ℕ) (append nonblock : Bool) (d : Option Description) → Kept s (flagged s key append nonblock d)
+kept_flagged : (s : State) (key : ℕ) (append nonblock : Bool) (d : Option Description)
+    → Kept s (flagged s key append nonblock d)
 kept_flagged s key append nonblock None b content is = is
 kept_flagged s key append nonblock (Some d) b content is = is
 
@@ -54,18 +56,25 @@ made s content x by b c is =
       | inr old ↦ inl old.1
     ]
 
-pub contents_stay : (s : State) (c : Call) (x : Change) (b : ℕ) (content : Content) → fin.get (changed s c x).objects b ≡ Some content → CameBy s x b content
+pub contents_stay : (s : State) (c : Call) (x : Change) (b : ℕ) (content : Content)
+    → fin.get (changed s c x).objects b ≡ Some content → CameBy s x b content
 contents_stay s c change.Nothing b content is = inl is
 contents_stay s c (change.Share n key) b content is = inl is
-contents_stay s c (change.Close n key) b content is = inl (kept_closed s n key (fin.get s.descriptions key) b content is)
-contents_stay s c (change.Replace n old_key key) b content is = inl (kept_closed s n old_key (fin.get s.descriptions old_key) b content is)
-contents_stay s c (change.SetFlags key append nonblock) b content is = inl (kept_flagged s key append nonblock (fin.get s.descriptions key) b content is)
+contents_stay s c (change.Close n key) b content is =
+    inl (kept_closed s n key (fin.get s.descriptions key) b content is)
+contents_stay s c (change.Replace n old_key key) b content is =
+    inl (kept_closed s n old_key (fin.get s.descriptions old_key) b content is)
+contents_stay s c (change.SetFlags key append nonblock) b content is =
+    inl (kept_flagged s key append nonblock (fin.get s.descriptions key) b content is)
 contents_stay s c (change.AddFile object) b content is = inl is
 contents_stay s c change.AddDirectory b content is = inl is
-contents_stay s c (change.RemoveFile object) b content is = inl (kept_unused s (without_name s c) object (λ b content is. is) b content is)
+contents_stay s c (change.RemoveFile object) b content is =
+    inl (kept_unused s (without_name s c) object (λ b content is. is) b content is)
 contents_stay s c change.RemoveDirectory b content is = inl is
-contents_stay s c (change.Rename object lost) b content is = inl (kept_lost s (renamed s c object) lost (λ b content is. is) b content is)
+contents_stay s c (change.Rename object lost) b content is =
+    inl (kept_lost s (renamed s c object) lost (λ b content is. is) b content is)
 contents_stay s c (change.OpenFile new) b content is = inl is
 contents_stay s c (change.MakeFile new) b content is = made s (File []) (change.MakeFile new) refl b content is
 contents_stay s c (change.MakePipe new) b content is = made s (Pipe []) (change.MakePipe new) refl b content is
-contents_stay s c (change.MakeSockets new) b content is = made s (Pair new_pair) (change.MakeSockets new) refl b content is
+contents_stay s c (change.MakeSockets new) b content is = made s (Pair new_pair) (change.MakeSockets new) refl b content
+    is

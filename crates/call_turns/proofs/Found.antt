@@ -1,5 +1,6 @@
 -- What stands in a list or a map at a place where something does.
-use Rattle.std.proofs.Common.{◌≡◌, ◌≢◌, ◌⊎◌, inl, inr, ap, Bool, cond, ℕ, zero, suc, ◌<◌, List, [], ◌∷◌, length, Option, Some, None, is_some, unwrap_or, true, false, refl, sym, ◌∙◌, arith}
+use Rattle.std.proofs.Common.{◌≡◌, ◌≢◌, ◌⊎◌, inl, inr, ap, Bool, cond, ℕ, zero, suc, ◌<◌, List, [], ◌∷◌, length, Option}
+use Rattle.std.proofs.Common.{Some, None, is_some, unwrap_or, true, false, refl, sym, ◌∙◌, arith}
 use Rattle.std.proofs.lemmas.Bool.{cases_eq, false≢true}
 use Rattle.std.proofs.lemmas.Bool.Decides.{nat_tests}
 use Rattle.std.proofs.lemmas.Option.{none-some, same_Some}
@@ -18,7 +19,8 @@ some_is None d there = absurd (false≢true there)
 some_is (Some x) d there = refl
 
 -- an object that is there, and a description
-pub birth_is : (t : TableState) (node : ℕ) → is_used t node ≡ true → slice_index_or t.objects node None ≡ Some (birth_at t node)
+pub birth_is : (t : TableState) (node : ℕ) → is_used t node ≡ true
+    → slice_index_or t.objects node None ≡ Some (birth_at t node)
 birth_is t node used = some_is (slice_index_or t.objects node None) t.made_objects used
 
 pub known_at : (m : DescriptionMap) (key : ℕ) → ContainsKey m key → fin.get m.by_key key ≡ Some (description_at m key)
@@ -41,7 +43,8 @@ module _ {X : Type 0} where
   pub get-insert_same : (m : FinMap nat_cmp X) (key : ℕ) (x : X) → fin.get (fin.insert m key x) key ≡ Some x
   get-insert_same m key x = get-insert nat_cmp_total m key x key ∙ rw (tied_same key) refl
 
-  pub get-insert_other : (m : FinMap nat_cmp X) (key : ℕ) (x : X) (q : ℕ) → q ≢ key → fin.get (fin.insert m key x) q ≡ fin.get m q
+  pub get-insert_other : (m : FinMap nat_cmp X) (key : ℕ) (x : X) (q : ℕ) → q ≢ key
+      → fin.get (fin.insert m key x) q ≡ fin.get m q
   get-insert_other m key x q apart = get-insert nat_cmp_total m key x q ∙ rw (tied_not q key apart) refl
 
   pub put_at : (m : FinMap nat_cmp X) (key : ℕ) (x : X) (q : ℕ) (y : X) → fin.get (fin.insert m key x) q ≡ Some y
@@ -53,12 +56,15 @@ module _ {X : Type 0} where
       ]
 
   -- what is left was there
-  pub got_less : (m : FinMap nat_cmp X) (key q : ℕ) (y : X) → fin.get (fin.remove m key) q ≡ Some y → fin.get m q ≡ Some y
+  pub got_less : (m : FinMap nat_cmp X) (key q : ℕ) (y : X) → fin.get (fin.remove m key) q ≡ Some y
+      → fin.get m q ≡ Some y
   got_less m key q y is = by_tie (eq_by_cmp nat_cmp q key) refl
     where
       by_tie : (b : Bool) → eq_by_cmp nat_cmp q key ≡ b → fin.get m q ≡ Some y
-      by_tie true tied = absurd (none-some _ (sym (get-remove nat_cmp_total m key q ∙ ap (λ (b : Bool). cond b None (fin.get m q)) tied) ∙ is))
-      by_tie false tied = sym (get-remove nat_cmp_total m key q ∙ ap (λ (b : Bool). cond b None (fin.get m q)) tied) ∙ is
+      by_tie true tied = absurd (none-some _
+          (sym (get-remove nat_cmp_total m key q ∙ ap (λ (b : Bool). cond b None (fin.get m q)) tied) ∙ is))
+      by_tie false tied = sym (get-remove nat_cmp_total m key q ∙ ap (λ (b : Bool). cond b None (fin.get m q)) tied)
+          ∙ is
 
   -- a value in the place of another one
   pub still_some : (m : FinMap nat_cmp X) (key : ℕ) (x : X) (q : ℕ) → is_some (fin.get m key) ≡ true

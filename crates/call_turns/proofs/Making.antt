@@ -55,14 +55,16 @@ module _ (law : TableFollows) (h : Stored) (c : Call) (carried : Carried) (objec
       ap (posix.query_of c) (effect_is law h w st c carried (record { object = object; deed = deed.Acts a x }) decided)
       ∙ asks_nothing c _ _
 
-  pub act_replied : (r : Reply) (new : Stored) (patience : ℕ) → EndsTurn carried h c (act_end.Reply r) new → Makes patience carried h c (start.Ended (end.Reply r)) new
+  pub act_replied : (r : Reply) (new : Stored) (patience : ℕ) → EndsTurn carried h c (act_end.Reply r) new
+      → Makes patience carried h c (start.Ended (end.Reply r)) new
   act_replied r new patience ends settings w same st = record {
     request = request_none w st;
     answer_is = ap as_end (ends settings w st).0;
     change = (ends settings w st).1;
   }
 
-  pub act_waits : (moved : Moved) (e : TurnEnd) (new : Stored) (patience : ℕ) → EndsTurn carried h c (act_end.Waits moved) new → Waits patience moved carried e
+  pub act_waits : (moved : Moved) (e : TurnEnd) (new : Stored) (patience : ℕ)
+      → EndsTurn carried h c (act_end.Waits moved) new → Waits patience moved carried e
       → Makes patience carried h c (start.Ended e) new
   act_waits moved e new patience ends waits settings w same st = record {
     request = request_none w st;
@@ -72,8 +74,10 @@ module _ (law : TableFollows) (h : Stored) (c : Call) (carried : Carried) (objec
 
 -- ## The table alone
 
-pub refuses : (law : TableFollows) (h : Stored) (c : Call) (carried : Carried) (e : Errno) → decided (view h.table) c carried.moved ≡ Err e
-    → (number_locked h c carried ≡ None) × ((patience : ℕ) → Makes patience carried h c (start.Ended (end.Reply (reply.Fail e))) h)
+pub refuses : (law : TableFollows) (h : Stored) (c : Call) (carried : Carried) (e : Errno)
+    → decided (view h.table) c carried.moved ≡ Err e
+    → (number_locked h c carried ≡ None)
+    × ((patience : ℕ) → Makes patience carried h c (start.Ended (end.Reply (reply.Fail e))) h)
 refuses law h c carried e is = (
   ap (λ (d : Result Decision Errno). option_map (λ (x : Locking). x.object) (locking_of d)) is,
   λ patience settings w same st.
@@ -81,11 +85,13 @@ refuses law h c carried e is = (
       record {
         request = ap (posix.query_of c) effect;
         answer_is = ap (λ (r : Result Effect Errno). answer_in (concluded settings w.object None carried r)) effect;
-        change = subst (λ (r : Result Effect Errno). Stands h (world_with w (concluded settings w.object None carried r).after)) (sym effect) (stands_same law h w st);
+        change = subst (λ (r : Result Effect Errno). Stands h
+            (world_with w (concluded settings w.object None carried r).after)) (sym effect) (stands_same law h w st);
       },
 )
 
-pub replies_alone : (law : TableFollows) (h : Stored) (c : Call) (carried : Carried) (r : Reply) (x : Change) (new : Stored)
+pub replies_alone : (law : TableFollows) (h : Stored) (c : Call) (carried : Carried) (r : Reply) (x : Change)
+    (new : Stored)
     → decided (view h.table) c carried.moved ≡ Ok (decision.Replies r x) → StandsChanged h c x new
     → (number_locked h c carried ≡ None) × ((patience : ℕ) → Makes patience carried h c (start.Ended (end.Reply r)) new)
 replies_alone law h c carried r x new is stands = (
@@ -95,6 +101,7 @@ replies_alone law h c carried r x new is stands = (
       record {
         request = ap (posix.query_of c) effect;
         answer_is = ap (λ (r : Result Effect Errno). answer_in (concluded settings w.object None carried r)) effect;
-        change = subst (λ (r : Result Effect Errno). Stands new (world_with w (concluded settings w.object None carried r).after)) (sym effect) (stands w st);
+        change = subst (λ (r : Result Effect Errno). Stands new
+            (world_with w (concluded settings w.object None carried r).after)) (sym effect) (stands w st);
       },
 )

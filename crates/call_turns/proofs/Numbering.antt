@@ -1,5 +1,6 @@
 -- The lowest number that is free, and the number that an object has.
-use Rattle.std.proofs.Common.{◌≡◌, ℕ, zero, suc, ◌+◌, ◌<◌, List, [], ◌∷◌, Option, Some, None, true, false, get_or, length, refl, sym, ap, ◌∙◌, arith, ⊎_elim}
+use Rattle.std.proofs.Common.{◌≡◌, ℕ, zero, suc, ◌+◌, ◌<◌, List, [], ◌∷◌, Option, Some, None, true, false, get_or}
+use Rattle.std.proofs.Common.{length, refl, sym, ap, ◌∙◌, arith, ⊎_elim}
 use Rattle.std.proofs.lemmas.Bool.{cases_Bool, cond-true, cond-false, false≢true, ne_eqb, eq-eqb}
 use Rattle.std.proofs.lemmas.Option.{none-some, same_Some}
 use Rattle.std.specs.FinMap as fin
@@ -10,7 +11,9 @@ use Rattle.sequential_object.specs.Numbers.{first_free, number_in}
 use Rattle.sequential_object.specs.Worlds.{World}
 use Rattle.call_turns.specs.Store.{Stands, Stored}
 
-lowest_first : (slots : List (Option ℕ)) (left from node : ℕ) (rest : List (Option ℕ)) → ((k : ℕ) → slice_index_or slots (from + k) None ≡ get_or rest k None) → length rest ≡ left → lowest_from slots left from ≡ Some node → from + first_free rest ≡ node
+lowest_first : (slots : List (Option ℕ)) (left from node : ℕ) (rest : List (Option ℕ))
+    → ((k : ℕ) → slice_index_or slots (from + k) None ≡ get_or rest k None) → length rest ≡ left
+    → lowest_from slots left from ≡ Some node → from + first_free rest ≡ node
 unfolding lowest_from
 lowest_first slots zero from node rest at count is = absurd (none-some node is)
 lowest_first slots (suc left) from node [] at count is = absurd (omega (arith, count))
@@ -23,7 +26,8 @@ lowest_first slots (suc left) from node (None ∷ rest) at count is =
 lowest_first slots (suc left) from node (Some b ∷ rest) at count is =
     let here : slice_index_or slots from None ≡ Some b = ap (λ k. slice_index_or slots k None) (still from) ∙ at 0 in
     along from (first_free rest)
-    ∙ lowest_first slots left (from + 1) node rest (λ k. ap (λ n. slice_index_or slots n None) (later from k) ∙ at (suc k)) (less (length rest) left count) (sym (cond-true _ _ _ (ap is_some here)) ∙ is)
+    ∙ lowest_first slots left (from + 1) node rest (λ k. ap (λ n. slice_index_or slots n None) (later from k)
+    ∙ at (suc k)) (less (length rest) left count) (sym (cond-true _ _ _ (ap is_some here)) ∙ is)
   where
     still : (k : ℕ) → k ≡ k + 0
     still k = omega arith
@@ -37,33 +41,41 @@ lowest_first slots (suc left) from node (Some b ∷ rest) at count is =
     less : (a b : ℕ) → suc a ≡ suc b → a ≡ b
     less a b e = omega arith
 
-pub lowest_is_free : (slots : List (Option ℕ)) (left from node : ℕ) → lowest_from slots left from ≡ Some node → slice_index_or slots node None ≡ None
+pub lowest_is_free : (slots : List (Option ℕ)) (left from node : ℕ) → lowest_from slots left from ≡ Some node
+    → slice_index_or slots node None ≡ None
 unfolding lowest_from
 lowest_is_free slots zero from node is = absurd (none-some node is)
 lowest_is_free slots (suc left) from node is =
     ⊎_elim
-    (λ (taken : is_some (slice_index_or slots from None) ≡ true). lowest_is_free slots left (from + 1) node (sym (cond-true _ _ _ taken) ∙ is))
+    (λ (taken : is_some (slice_index_or slots from None) ≡ true). lowest_is_free slots left (from + 1) node
+    (sym (cond-true _ _ _ taken) ∙ is))
     (λ (free : is_some (slice_index_or slots from None) ≡ false).
-    ap (λ k. slice_index_or slots k None) (sym (same_Some from node (sym (cond-false _ _ _ free) ∙ is))) ∙ is_none (slice_index_or slots from None) free)
+    ap (λ k. slice_index_or slots k None) (sym (same_Some from node (sym (cond-false _ _ _ free) ∙ is)))
+    ∙ is_none (slice_index_or slots from None) free)
     (cases_Bool (is_some (slice_index_or slots from None)))
   where
     is_none : (o : Option ℕ) → is_some o ≡ false → o ≡ None
     is_none None e = refl
     is_none (Some x) e = absurd (false≢true (sym e))
 
-pub first_free_is : (t : TableState) (node : ℕ) → length t.objects ≡ limit.OBJECTS → free_object t ≡ Some node → first_free t.objects ≡ node
+pub first_free_is : (t : TableState) (node : ℕ) → length t.objects ≡ limit.OBJECTS → free_object t ≡ Some node
+    → first_free t.objects ≡ node
 first_free_is t node count is =
-    sym (from_zero (first_free t.objects)) ∙ lowest_first t.objects limit.OBJECTS 0 node t.objects (λ k. ap (λ n. slice_index_or t.objects n None) (from_zero k)) count is
+    sym (from_zero (first_free t.objects))
+    ∙ lowest_first t.objects limit.OBJECTS 0 node t.objects
+    (λ k. ap (λ n. slice_index_or t.objects n None) (from_zero k)) count is
   where
     from_zero : (k : ℕ) → 0 + k ≡ k
     from_zero k = omega arith
 
 -- no other slot has this object
-pub number_in_is : (slots : List (Option ℕ)) (node birth : ℕ) → get_or slots node None ≡ Some birth → ((other : ℕ) → get_or slots other None ≡ Some birth → other ≡ node) → number_in slots birth ≡ node
+pub number_in_is : (slots : List (Option ℕ)) (node birth : ℕ) → get_or slots node None ≡ Some birth
+    → ((other : ℕ) → get_or slots other None ≡ Some birth → other ≡ node) → number_in slots birth ≡ node
 number_in_is [] node birth at alone = absurd (none-some birth at)
 number_in_is (Some b ∷ slots) zero birth at alone = cond-true _ _ _ (eq-eqb b birth (same_Some b birth at))
 number_in_is (None ∷ slots) zero birth at alone = absurd (none-some birth at)
-number_in_is (None ∷ slots) (suc node) birth at alone = ap suc (number_in_is slots node birth at (λ other is. less other node (alone (suc other) is)))
+number_in_is (None ∷ slots) (suc node) birth at alone =
+    ap suc (number_in_is slots node birth at (λ other is. less other node (alone (suc other) is)))
   where
     less : (a b : ℕ) → suc a ≡ suc b → a ≡ b
     less a b e = omega arith
@@ -78,7 +90,8 @@ number_in_is (Some b ∷ slots) (suc node) birth at alone =
     not_first n e = omega arith
 
 -- the next object is not there yet
-pub next_is_new : (h : Stored) (w : World) → Stands h w → is_some (fin.get w.object.objects h.table.made_objects) ≡ false
+pub next_is_new : (h : Stored) (w : World) → Stands h w
+    → is_some (fin.get w.object.objects h.table.made_objects) ≡ false
 next_is_new h w stands =
     ⊎_elim
     (λ (there : is_some (fin.get w.object.objects h.table.made_objects) ≡ true).

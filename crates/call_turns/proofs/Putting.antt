@@ -1,5 +1,6 @@
 -- What an act leaves, of its object and of the description that it moves, stands for what it leaves of the state.
-use Rattle.std.proofs.Common.{◌≡◌, ◌≢◌, ℕ, ◌<◌, List, [], length, unwrap_or, Option, Some, None, is_some, true, inl, inr, refl, sym, ap, ◌∙◌, subst, arith}
+use Rattle.std.proofs.Common.{◌≡◌, ◌≢◌, ℕ, ◌<◌, List, [], length, unwrap_or, Option, Some, None, is_some, true, inl}
+use Rattle.std.proofs.Common.{inr, refl, sym, ap, ◌∙◌, subst, arith}
 use Rattle.std.proofs.lemmas.Bool.{cases_eq}
 use Rattle.std.proofs.lemmas.List.{get_or-set_same, get_or-set_other}
 use Rattle.std.proofs.lemmas.Option.{same_Some}
@@ -37,7 +38,8 @@ abbrev pub IsAlike : Option Content → Content → Type 0
 IsAlike (Some content) other = HasEndsOf content other
 IsAlike None other = Unit {0}
 
-numbers_same : (t u : TableState) → u.objects ≡ t.objects → u.made_objects ≡ t.made_objects → u.descriptions.made ≡ t.descriptions.made → NumbersStay t u
+numbers_same : (t u : TableState) → u.objects ≡ t.objects → u.made_objects ≡ t.made_objects
+    → u.descriptions.made ≡ t.descriptions.made → NumbersStay t u
 numbers_same t u objects made descriptions = record {
   numbers = λ node birth is. inl (ap (λ os. slice_index_or os node None) (sym objects) ∙ is);
   objects = omega (arith, made);
@@ -62,9 +64,15 @@ module _ (law : TableFollows) (h : Stored) (w : World) (st : Stands h w) where
     pub bodies : (moved_if h key offset).bodies ≡ h.bodies
 
   pub stays : Leaves h.table h.table w.object
-  stays = record { sound = st.sound; described = st.described; shows = st.shows; numbers = numbers_same h.table h.table refl refl refl }
+  stays = record {
+    sound = st.sound;
+    described = st.described;
+    shows = st.shows;
+    numbers = numbers_same h.table h.table refl refl refl;
+  }
 
-  objects_stay : (offset birth : ℕ) (d : Option object.Description) → (moved_to w.object (Some offset) (Some birth) d).objects ≡ w.object.objects
+  objects_stay : (offset birth : ℕ) (d : Option object.Description)
+      → (moved_to w.object (Some offset) (Some birth) d).objects ≡ w.object.objects
   objects_stay offset birth (Some d) = refl
   objects_stay offset birth None = refl
 
@@ -86,7 +94,8 @@ module _ (law : TableFollows) (h : Stored) (w : World) (st : Stands h w) where
         bodies = refl;
       }
 
-  module _ (node : ℕ) (key offset : Option ℕ) (used : is_used h.table node ≡ true) (long : length h.bodies ≡ limit.OBJECTS)
+  module _ (node : ℕ) (key offset : Option ℕ) (used : is_used h.table node ≡ true)
+      (long : length h.bodies ≡ limit.OBJECTS)
       (m : Moves key offset) where
     abbrev moved : Stored
     moved = moved_if h key offset
@@ -95,10 +104,12 @@ module _ (law : TableFollows) (h : Stored) (w : World) (st : Stands h w) where
     birth_of_node = birth_is h.table node used
 
     -- what was held before
-    was : (k b : ℕ) → slice_index_or moved.table.objects k None ≡ Some b → (c : Content) → fin.get (moved_state key offset).objects b ≡ Some c
+    was : (k b : ℕ) → slice_index_or moved.table.objects k None ≡ Some b → (c : Content)
+        → fin.get (moved_state key offset).objects b ≡ Some c
         → c ≡ kept_as c (slice_index_or moved.bodies k first_kept)
     was k b is c got =
-        st.contents k b (ap (λ os. slice_index_or os k None) (sym m.numbers) ∙ is) c (ap (λ (o : FinMap nat_cmp Content). fin.get o b) (sym m.objects) ∙ got)
+        st.contents k b (ap (λ os. slice_index_or os k None) (sym m.numbers) ∙ is) c
+        (ap (λ (o : FinMap nat_cmp Content). fin.get o b) (sym m.objects) ∙ got)
         ∙ ap (λ (bodies : List Kept). kept_as c (slice_index_or bodies k first_kept)) (sym m.bodies)
 
     left_alone : Stands moved (world_with w (moved_state key offset))
@@ -109,7 +120,8 @@ module _ (law : TableFollows) (h : Stored) (w : World) (st : Stands h w) where
       after = object.with_content (moved_state key offset) (birth_at h.table node) content
 
       there : is_some (fin.get (moved_state key offset).objects (birth_at h.table node)) ≡ true
-      there = ap (λ (o : FinMap nat_cmp Content). is_some (fin.get o (birth_at h.table node))) m.objects ∙ st.shows.objects node (birth_at h.table node) birth_of_node
+      there = ap (λ (o : FinMap nat_cmp Content). is_some (fin.get o (birth_at h.table node))) m.objects
+          ∙ st.shows.objects node (birth_at h.table node) birth_of_node
 
       left : Leaves h.table moved.table after
       left = record {
@@ -117,39 +129,57 @@ module _ (law : TableFollows) (h : Stored) (w : World) (st : Stands h w) where
         described = m.left.described;
         shows =
             law.contents moved.table (moved_state key offset) (birth_at h.table node) content m.left.shows there
-            (subst (λ (o : FinMap nat_cmp Content). HasEndsOf content (unwrap_or (fin.get o (birth_at h.table node)) (object.File []))) (sym m.objects) alike);
+            (subst (λ (o : FinMap nat_cmp Content). HasEndsOf content
+            (unwrap_or (fin.get o (birth_at h.table node)) (object.File []))) (sym m.objects) alike);
         numbers = m.left.numbers;
       }
 
       inside : node < length moved.bodies
       inside =
-          let below : node < length h.table.objects = place_within h.table.objects node (birth_at h.table node) birth_of_node in
+          let below : node < length h.table.objects = place_within h.table.objects node (birth_at h.table node)
+          birth_of_node in
           let slots : length h.table.objects ≡ 48 = st.sound.object_numbers in
           subst (λ (bodies : List Kept). node < length bodies) (sym m.bodies) (omega (arith, below, slots, long))
 
-      holds_at : (k b : ℕ) → slice_index_or moved.table.objects k None ≡ Some b → (c : Content) → fin.get after.objects b ≡ Some c
+      holds_at : (k b : ℕ) → slice_index_or moved.table.objects k None ≡ Some b → (c : Content)
+          → fin.get after.objects b ≡ Some c
           → c ≡ kept_as c (slice_index_or (acting.holding moved node content).bodies k first_kept)
       holds_at k b is c got =
           elim (cases_eq k node) [
             | inl at ↦ (
-                let had : slice_index_or h.table.objects node None ≡ Some b = ap (λ (i : ℕ). slice_index_or h.table.objects i None) (sym at) ∙ ap (λ os. slice_index_or os k None) (sym m.numbers) ∙ is in
+                let had : slice_index_or h.table.objects node None ≡ Some b =
+                ap (λ (i : ℕ). slice_index_or h.table.objects i None) (sym at)
+                ∙ ap (λ os. slice_index_or os k None) (sym m.numbers) ∙ is in
                 let one : b ≡ birth_at h.table node = same_Some _ _ (sym had ∙ birth_of_node) in
-                let same : content ≡ c = same_Some _ _ (sym (get-insert_same (moved_state key offset).objects (birth_at h.table node) content) ∙ ap (fin.get after.objects) (sym one) ∙ got) in
-                subst (λ (x : Content). x ≡ kept_as x (slice_index_or (acting.holding moved node content).bodies k first_kept)) same
+                let same : content ≡ c = same_Some _ _
+                (sym (get-insert_same (moved_state key offset).objects (birth_at h.table node) content)
+                ∙ ap (fin.get after.objects) (sym one) ∙ got) in
+                subst (λ (x : Content). x ≡ kept_as x
+                (slice_index_or (acting.holding moved node content).bodies k first_kept)) same
                 (kept_own content (kept_at moved node)
-                ∙ ap (kept_as content) (sym (ap (λ (i : ℕ). slice_index_or (acting.holding moved node content).bodies i first_kept) at ∙ get_or-set_same moved.bodies node (keeping content (kept_at moved node)) first_kept inside))))
+                ∙ ap (kept_as content) (sym (ap
+                (λ (i : ℕ). slice_index_or (acting.holding moved node content).bodies i first_kept) at
+                ∙ get_or-set_same moved.bodies node (keeping content (kept_at moved node)) first_kept inside))))
             | inr apart ↦ (
-                let had : slice_index_or h.table.objects k None ≡ Some b = ap (λ os. slice_index_or os k None) (sym m.numbers) ∙ is in
-                let other : b ≢ birth_at h.table node = λ same. apart (st.sound.distinct k node b had (birth_of_node ∙ ap (λ (n : ℕ). Some n) (sym same))) in
-                was k b is c (sym (get-insert_other (moved_state key offset).objects (birth_at h.table node) content b other) ∙ got)
-                ∙ ap (kept_as c) (sym (get_or-set_other moved.bodies node k (keeping content (kept_at moved node)) first_kept apart)))
+                let had : slice_index_or h.table.objects k None ≡ Some b =
+                ap (λ os. slice_index_or os k None) (sym m.numbers) ∙ is in
+                let other : b ≢ birth_at h.table node =
+                λ same. apart (st.sound.distinct k node b had
+                (birth_of_node ∙ ap (λ (n : ℕ). Some n) (sym same))) in
+                was k b is c (sym (get-insert_other (moved_state key offset).objects (birth_at h.table node) content b
+                other) ∙ got)
+                ∙ ap (kept_as c) (sym (get_or-set_other moved.bodies node k (keeping content (kept_at moved node))
+                first_kept apart)))
           ]
 
       left_holding : Stands (acting.holding moved node content) (world_with w after)
       left_holding = stands_by h w st moved.table after left (acting.holding moved node content).bodies holds_at
 
-  pub puts : (node : ℕ) (key offset : Option ℕ) (content : Option Content) → is_used h.table node ≡ true → length h.bodies ≡ limit.OBJECTS
+  pub puts : (node : ℕ) (key offset : Option ℕ) (content : Option Content) → is_used h.table node ≡ true
+      → length h.bodies ≡ limit.OBJECTS
       → IsKnown h.table key → IsAlike content (content_of w.object (birth_at h.table node))
-      → Stands (holding_if (moved_if h key offset) node content) (world_with w (holding (moved_state key offset) (birth_at h.table node) content))
+      → Stands (holding_if (moved_if h key offset) node content)
+      (world_with w (holding (moved_state key offset) (birth_at h.table node) content))
   puts node key offset None used long known alike = left_alone node key offset used long (moves key offset known)
-  puts node key offset (Some content) used long known alike = left_holding node key offset used long (moves key offset known) content alike
+  puts node key offset (Some content) used long known alike =
+      left_holding node key offset used long (moves key offset known) content alike

@@ -1,5 +1,6 @@
 -- The table with the bodies, and the world that they stand for.
-use Rattle.std.proofs.Common.{◌≡◌, ℕ, zero, suc, List, Option, Some, None, Result, Ok, Err, IfOk, true, get_or, replicate, refl, sym, ap, ◌∙◌, arith, ⊎_elim}
+use Rattle.std.proofs.Common.{◌≡◌, ℕ, zero, suc, List, Option, Some, None, Result, Ok, Err, IfOk, true, get_or}
+use Rattle.std.proofs.Common.{replicate, refl, sym, ap, ◌∙◌, arith, ⊎_elim}
 use Rattle.std.proofs.lemmas.Bool.{cond-true, cond-false}
 use Rattle.std.proofs.lemmas.Option.{none-some}
 use Rattle.std.specs.FinMap as fin
@@ -32,7 +33,8 @@ use Rattle.call_turns.specs.declared.patience.Locking.{Locking}
 
 -- ## The number of an object
 
-pub used_number : (h : Stored) (w : World) (node : ℕ) → Stands h w → is_used h.table node ≡ true → number_of w (birth_at h.table node) ≡ node
+pub used_number : (h : Stored) (w : World) (node : ℕ) → Stands h w → is_used h.table node ≡ true
+    → number_of w (birth_at h.table node) ≡ node
 used_number h w node stands used =
     let birth = birth_at h.table node in
     let slot = birth_is h.table node used in
@@ -40,23 +42,28 @@ used_number h w node stands used =
     ∙ ap (λ (slots : List (Option ℕ)). number_in slots birth) stands.numbers
     ∙ number_in_is h.table.objects node birth slot (λ other is. stands.sound.distinct other node birth is slot)
 
-free_number : (h : Stored) (w : World) (node : ℕ) → Stands h w → free_object h.table ≡ Some node → number_of w (birth_at h.table node) ≡ node
+free_number : (h : Stored) (w : World) (node : ℕ) → Stands h w → free_object h.table ≡ Some node
+    → number_of w (birth_at h.table node) ≡ node
 free_number h w node stands free =
-    let birth : birth_at h.table node ≡ h.table.made_objects = ap (λ (o : Option ℕ). unwrap_or o h.table.made_objects) (lowest_is_free h.table.objects limit.OBJECTS 0 node free) in
+    let birth : birth_at h.table node ≡ h.table.made_objects = ap (λ (o : Option ℕ). unwrap_or o h.table.made_objects)
+    (lowest_is_free h.table.objects limit.OBJECTS 0 node free) in
     ap (number_of w) birth
     ∙ cond-false _ _ _ (next_is_new h w stands)
     ∙ ap first_free stands.numbers
     ∙ first_free_is h.table node stands.sound.object_numbers free
 
-stands_number : (h : Stored) (w : World) (node : ℕ) → Stands h w → IsKnownNumber h.table node → number_of w (birth_at h.table node) ≡ node
-stands_number h w node stands known = ⊎_elim (λ used. used_number h w node stands used) (λ free. free_number h w node stands free) known.1
+stands_number : (h : Stored) (w : World) (node : ℕ) → Stands h w → IsKnownNumber h.table node
+    → number_of w (birth_at h.table node) ≡ node
+stands_number h w node stands known = ⊎_elim (λ used. used_number h w node stands used)
+    (λ free. free_number h w node stands free) known.1
 
 module _ (law : TableFollows) (h : Stored) (w : World) (stands : Stands h w) (c : Call) (carried : Carried) where
   follows : Follows h.table c carried.moved
   follows = law.calls h.table c carried.moved stands.sound stands.described
 
   by_decided : (d : Result Decision Errno) → IfOk d (IsSo (view h.table) c)
-      → numbered w (locks_of (ok_by (decision_by (names_of h.table)) d)) ≡ option_map (λ (x : Locking). x.object) (locking_of d)
+      → numbered w (locks_of (ok_by (decision_by (names_of h.table)) d))
+      ≡ option_map (λ (x : Locking). x.object) (locking_of d)
   by_decided (Err e) so = refl
   by_decided (Ok (decision.Replies r x)) so = refl
   by_decided (Ok (decision.Locks object d)) so =

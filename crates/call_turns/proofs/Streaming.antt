@@ -1,5 +1,6 @@
 -- What a stream answers is how an act on it ends.
-use Rattle.std.proofs.Common.{◌≡◌, ◌<◌, ℕ, List, length, take, drop, ◌++◌, ◌==◌, Some, Bool, true, false, if◌then◌else◌, ◌+◌, refl, sym, ap, ◌∙◌}
+use Rattle.std.proofs.Common.{◌≡◌, ◌<◌, ℕ, List, length, take, drop, ◌++◌, ◌==◌, Some, Bool, true, false, if◌then◌else◌}
+use Rattle.std.proofs.Common.{◌+◌, refl, sym, ap, ◌∙◌}
 use Rattle.std.proofs.Math.Seq.{take-append_seam}
 use Rattle.sequential_object.specs.declared.turn_end.ActEnd.{ActEnd}
 use Rattle.sequential_object.specs.declared.turn_end.ActEnd.TheVariants as act_end
@@ -9,7 +10,8 @@ use Rattle.sequential_object.specs.Streams.{Half, PairState, Reading, Writing, h
 use Rattle.posix_terms.specs.Ends.{peer_of}
 use Rattle.posix_terms.specs.declared.object.Side.{Side}
 use Rattle.posix_terms.specs.declared.reply.Reply.TheVariants as reply
-use Rattle.sequential_object.specs.Acts.{Blocks, Replies, blocked_after, concludes, has_read, has_written, pipe_written, replies}
+use Rattle.sequential_object.specs.Acts.{Blocks, Replies, blocked_after, concludes, has_read, has_written, pipe_written}
+use Rattle.sequential_object.specs.Acts.{replies}
 use Rattle.sequential_object.specs.Acts.{moved_by}
 use Rattle.pipes.specs.Pipe as pipes
 use Rattle.sequential_object.specs.declared.decision.Seen.{Seen}
@@ -32,21 +34,25 @@ put_back bodies node content inside same = ap (slice_set bodies node) same ∙ s
 
 module _ (h : Stored) (node : ℕ) (inside : node < length h.bodies) where
   pub pair_kept : holding h node (Pair (kept_at h node).pair) ≡ h
-  pair_kept = ap (λ (bodies : List Kept). record h { bodies = bodies }) (put_back h.bodies node (Pair (kept_at h node).pair) inside refl)
+  pair_kept = ap (λ (bodies : List Kept). record h { bodies = bodies })
+      (put_back h.bodies node (Pair (kept_at h node).pair) inside refl)
 
   pub pipe_kept : holding h node (Pipe (kept_at h node).pipe) ≡ h
-  pipe_kept = ap (λ (bodies : List Kept). record h { bodies = bodies }) (put_back h.bodies node (Pipe (kept_at h node).pipe) inside refl)
+  pipe_kept = ap (λ (bodies : List Kept). record h { bodies = bodies })
+      (put_back h.bodies node (Pipe (kept_at h node).pipe) inside refl)
 
   pub written_pair : (to : Seen) (side : Side) (count : ℕ) (w : Writing) (e : ActEnd) (new : Stored)
       → e ≡ ending_of_write (write_answer count w) to.nonblock
       → new ≡ holding h node (Pair (left_by_write (kept_at h node).pair side w))
-      → Leaves (has_written to (λ left. Pair (with_waiting (kept_at h node).pair (peer_of side) left)) count w) h node (Some to.key) e new
+      → Leaves (has_written to (λ left. Pair (with_waiting (kept_at h node).pair (peer_of side) left)) count w) h node
+      (Some to.key) e new
   written_pair to side count (stream.Writes left) e new told is = (told, is)
   written_pair to side count stream.Breaks e new told is = (told, is ∙ pair_kept)
   written_pair to side count stream.NoRoom e new told is = by_flag to.nonblock told
     where
       by_flag : (b : Bool) → e ≡ stopped_ending b
-          → Leaves (if b then replies (reply.Fail EAGAIN) else concludes (Blocks nothing_moved)) h node (Some to.key) e new
+          → Leaves (if b then replies (reply.Fail EAGAIN) else concludes (Blocks nothing_moved)) h node (Some to.key) e
+          new
       by_flag true ends = (ends, is ∙ pair_kept)
       by_flag false ends = (ends, is ∙ pair_kept)
 
@@ -71,20 +77,25 @@ module _ (h : Stored) (node : ℕ) (inside : node < length h.bodies) where
       by_tests (half_at p side).reading_shut (length (half_at p side).waiting == 0) more told is
     where
       by_tests : (shut none more : Bool)
-          → e ≡ ending_of_read (read_answer (reading (half_at p side) (length place) shut none more)) (if shut then place else take (length place) (half_at p side).waiting ++ drop (length (half_at p side).waiting) place) from.nonblock
+          → e ≡ ending_of_read (read_answer (reading (half_at p side) (length place) shut none more)) (if shut
+          then place else take (length place) (half_at p side).waiting
+          ++ drop (length (half_at p side).waiting) place) from.nonblock
           → new ≡ holding h node (Pair (left_by_read p side (reading (half_at p side) (length place) shut none more)))
-          → Leaves (has_read from (λ left. Pair (with_waiting p side left)) (reading (half_at p side) (length place) shut none more)) h node (Some from.key) e new
+          → Leaves (has_read from (λ left. Pair (with_waiting p side left))
+          (reading (half_at p side) (length place) shut none more)) h node (Some from.key) e new
       by_tests true none more ends left = (ends, left ∙ pair_kept)
       by_tests false true true ends left = by_flag from.nonblock ends
         where
           by_flag : (b : Bool) → e ≡ stopped_ending b
-              → Leaves (if b then replies (reply.Fail EAGAIN) else concludes (Blocks nothing_moved)) h node (Some from.key) e new
+              → Leaves (if b then replies (reply.Fail EAGAIN) else concludes (Blocks nothing_moved)) h node
+              (Some from.key) e new
           by_flag true stops = (stops, left ∙ pair_kept)
           by_flag false stops = (stops, left ∙ pair_kept)
       by_tests false true false ends left = (ends, left ∙ pair_kept)
       by_tests false false more ends left = (
         ends ∙ ap (λ (bytes : List ℕ). act_end.Reply (reply.Data bytes))
-            (take-append_seam (take (length place) (half_at p side).waiting) (drop (length (half_at p side).waiting) place)),
+            (take-append_seam (take (length place) (half_at p side).waiting)
+            (drop (length (half_at p side).waiting) place)),
         left,
       )
 
@@ -92,9 +103,11 @@ module _ (h : Stored) (node : ℕ) (inside : node < length h.bodies) where
       → e ≡ ending_of_pipe to all before (write_answer now w)
       → new ≡ holding h node (Pipe (pipes.left_by_write (kept_at h node).pipe w))
       → Leaves (pipe_written to all before now w) h node (Some to.key) e new
-  written_pipe to all before now (stream.Writes left) e new told is = (told ∙ sym (ends_total (nat_le all (before + now))), is)
+  written_pipe to all before now (stream.Writes left) e new told is =
+      (told ∙ sym (ends_total (nat_le all (before + now))), is)
     where
-      ends_total : (b : Bool) → end_of (if b then Replies (reply.Count (before + now)) else blocked_after to (before + now))
+      ends_total : (b : Bool) → end_of (if b then Replies (reply.Count (before + now))
+          else blocked_after to (before + now))
           ≡ (if b then act_end.Reply (reply.Count (before + now)) else end_of (blocked_after to (before + now)))
       ends_total true = refl
       ends_total false = refl
@@ -102,8 +115,10 @@ module _ (h : Stored) (node : ℕ) (inside : node < length h.bodies) where
   written_pipe to all before now stream.NoRoom e new told is = by_tests (before == 0) to.nonblock told
     where
       by_tests : (first nonblock : Bool)
-          → e ≡ (if first then stopped_ending nonblock else end_of (if nonblock then Replies (reply.Count before) else Blocks (moved_by to.birth before)))
-          → Leaves (if first then (if nonblock then replies (reply.Fail EAGAIN) else concludes (Blocks nothing_moved)) else concludes (if nonblock then Replies (reply.Count before) else Blocks (moved_by to.birth before)))
+          → e ≡ (if first then stopped_ending nonblock
+          else end_of (if nonblock then Replies (reply.Count before) else Blocks (moved_by to.birth before)))
+          → Leaves (if first then (if nonblock then replies (reply.Fail EAGAIN) else concludes (Blocks nothing_moved))
+          else concludes (if nonblock then Replies (reply.Count before) else Blocks (moved_by to.birth before)))
           h node (Some to.key) e new
       by_tests true true ends = (ends, is ∙ pipe_kept)
       by_tests true false ends = (ends, is ∙ pipe_kept)

@@ -1,6 +1,7 @@
 -- Internal: no contract of the headline or of a command stands on it.
 -- What the acts and the changes of calls make of the table and the bodies.
-use Rattle.std.specs.Prelude.{◌≡◌, ◌<◌, ◌≤◌, ◌+◌, ◌==◌, nat_le, if◌then◌else◌, ℕ, List, [], take, slice_index_or, slice_set, Bool, true, false}
+use Rattle.std.specs.Prelude.{◌≡◌, ◌<◌, ◌≤◌, ◌+◌, ◌==◌, nat_le, if◌then◌else◌, ℕ, List, [], take}
+use Rattle.std.specs.Prelude.{slice_index_or, slice_set, Bool, true, false}
 use Rattle.std.specs.Prelude.{Option, Some, None}
 use Rattle.posix_terms.specs.Calls.{Call}
 use Rattle.posix_terms.specs.declared.limits.TheConstants.Limits as limit
@@ -45,10 +46,12 @@ abbrev pub holding : Stored → ℕ → Content → Stored
 holding h node content =
     record h { bodies = slice_set h.bodies node (keeping content (kept_at h node)) }
 
+-- the offset is moved where the act has a description and a new offset for it
 abbrev pub moved_if : Stored → Option ℕ → Option ℕ → Stored
 moved_if h (Some key) (Some n) = moved h key n
 moved_if h key n = h
 
+-- an object holds a new content, where the act gave it one
 abbrev pub holding_if : Stored → ℕ → Option Content → Stored
 holding_if h node (Some content) = holding h node content
 holding_if h node None = h
@@ -62,10 +65,12 @@ abbrev pub Leaves : Acted → Stored → ℕ → Option ℕ → ActEnd → Store
 Leaves done old node key e new =
     (e ≡ end_of done.ending) × (new ≡ left_by old node key done)
 
+-- the offset of the description under this key
 abbrev pub offset_of_key : Stored → ℕ → ℕ
 offset_of_key h key =
     let d : Description = description_at h.table.descriptions key in d.offset
 
+-- the offset at which an act starts; 0 for an act that uses no description
 abbrev pub stands_at : Stored → Option ℕ → ℕ
 stands_at h (Some key) = offset_of_key h key
 stands_at h None = 0
@@ -117,6 +122,7 @@ ending_of_read (pipe.Data count) bytes nonblock =
 ending_of_read pipe.End bytes nonblock = act_end.Reply (reply.Data [])
 ending_of_read _ bytes nonblock = stopped_ending nonblock
 
+-- of a write to a socket, of which all bytes go at once or none
 abbrev pub ending_of_write : PipeAnswer → Bool → ActEnd
 ending_of_write (pipe.Count count) nonblock = act_end.Reply (reply.Count count)
 ending_of_write pipe.Broken nonblock = act_end.Reply (reply.Fail EPIPE)
@@ -144,6 +150,7 @@ abbrev pub emptied : List Kept → ℕ → Content → List Kept
 emptied bodies node content =
     slice_set bodies node (keeping content (slice_index_or bodies node first_kept))
 
+-- the bodies after a change: the object that it makes, if any, has nothing in it
 abbrev pub cleared : List Kept → Change → List Kept
 cleared bodies (change.MakeFile new) = emptied bodies new.object (File [])
 cleared bodies (change.MakePipe new) = emptied bodies new.object (Pipe [])

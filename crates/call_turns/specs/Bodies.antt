@@ -5,6 +5,7 @@ use Rattle.std.specs.Prelude.{ℕ, List, []}
 use Rattle.sequential_object.specs.Object.{Content, File, Pipe, Pair, DoorTo}
 use Rattle.sequential_object.specs.Streams.{PairState, new_pair}
 
+-- what is kept under one object number: bytes of a file, bytes of a pipe, and a pair of sockets
 pub record Kept : Type 0 where
   pub file : List ℕ
   pub pipe : List ℕ

@@ -1,6 +1,7 @@
 -- Believed: a contract of the headline stands on it.
 -- What a call takes along that goes outside, by the definitions of the calls.
-use Rattle.std.specs.Prelude.{◌≡◌, is_some, ℕ, Bool, true, false, Option, Some, None, Result, Ok, Err}
+use Rattle.std.specs.Prelude.{◌≡◌, is_some, ℕ, Bool, true, false, Option, Some, None, Result, Ok}
+use Rattle.std.specs.Prelude.{Err}
 use Rattle.sequential_object.specs.Descriptors.{described}
 use Rattle.sequential_object.specs.Effects.{Effect, Asks}
 use Rattle.sequential_object.specs.Locked.{keeps_table, locked_object}
@@ -24,11 +25,12 @@ door_taken s (call.TcpConnect port) carried = None
 door_taken s (call.TcpAccept descriptor) carried = object_found (described s descriptor)
 door_taken s c carried = locked_object s c carried
 
+-- whether a call with this effect goes outside, and waits where that fails with EAGAIN
 abbrev pub waits_by : Result Effect Errno → Bool
 waits_by (Ok (Asks a)) = a.waits
 waits_by effect = false
 
--- whether the failure EAGAIN is no reply to a call that goes outside, but makes it wait
+-- whether the failure EAGAIN is not a reply to a call that goes outside, but makes it wait
 abbrev pub waits_outside : State → Call → Carried → Bool
 waits_outside s c carried = waits_by (effect_of s c carried)
 

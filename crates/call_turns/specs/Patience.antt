@@ -69,7 +69,7 @@ told_outside out.Write value bytes = reply.Count value
 told_outside out.Seek value bytes = reply.Number (pos value)
 told_outside out.Shutdown value bytes = reply.Done
 told_outside out.Close value bytes = reply.Done
--- never met: who opens a door is told the number of its descriptor
+-- never met: who opens a door is given the number of its descriptor
 told_outside kind value bytes = reply.Done
 
 -- EAGAIN may make a call wait, and every other failure is its reply. While the outcome is missing

@@ -8,13 +8,14 @@ use Rattle.call_turns.specs.Patience.{turn_bytes}
 use Rattle.call_turns.specs.declared.patience.TurnStart.{TurnStart}
 use Rattle.call_turns.specs.declared.patience.TurnStart.TheVariants as start
 
--- so many bytes for the reply that is told, and for its copy in the row; and whether there is
+-- so many bytes for the reply that is given, and for its copy in the row; and whether there is
 -- room for an outcome in the row
 pub record Space : Type 0 where
   pub told : ℕ
   pub row : ℕ
   pub outcome : Bool
 
+-- no memory for bytes, and no room for an outcome
 abbrev pub no_space : Space
 no_space = record { told = 0; row = 0; outcome = false }
 

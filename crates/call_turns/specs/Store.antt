@@ -1,6 +1,7 @@
 -- Believed: a contract of the headline stands on it.
 -- The shared table with the bodies of its objects, and the world that they stand for.
-use Rattle.std.specs.Prelude.{◌≡◌, ℕ, ◌≤◌, ◌<◌, Bool, true, false, List, nat_le, replicate, slice_index_or, Option, Some, None, Result, Ok}
+use Rattle.std.specs.Prelude.{◌≡◌, ℕ, ◌≤◌, ◌<◌, Bool, true, false, List, nat_le, replicate}
+use Rattle.std.specs.Prelude.{slice_index_or, Option, Some, None, Result, Ok}
 use Rattle.std.specs.FinMap as map
 use Rattle.std.specs.Option.{option_map}
 use Rattle.sequential_object.specs.Object.{Content}
@@ -85,7 +86,8 @@ LocksAsStep =
     → number_locked h c carried ≡ numbered w (locked_object w.object c carried)
 
 -- a turn that goes outside with this errand, in this world: it asks what the call asks, at the door
--- that the call takes along, and EAGAIN makes it wait just where it makes the call wait. Unless it
+-- that the call takes along, and EAGAIN makes it wait exactly
+-- when it makes the call wait. Unless it
 -- keeps the table, its change is made, whatever will come of it, and it will end as the errand has
 -- it
 pub record GoesOut (settings : Settings) (w : World) (carried : Carried) (old : Stored) (c : Call)
@@ -101,7 +103,7 @@ pub record GoesOut (settings : Settings) (w : World) (carried : Carried) (old : 
       ≡ ended settings w.object carried (outside_ending errand (Some o))
   pub kept : keeps_table c ≡ true → new ≡ old
 
--- a turn that asks nothing outside: so it ended, and now they stand for the world behind it
+-- a turn that asks nothing outside: so it ended, and now they stand for the world after it
 pub record EndsAt (settings : Settings) (w : World) (carried : Carried) (c : Call) (e : TurnEnd)
     (new : Stored) : Type 0 where
   pub request : asks w.object c carried ≡ None

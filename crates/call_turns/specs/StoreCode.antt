@@ -8,6 +8,7 @@ use Rattle.sequential_object.specs.Streams.{Half}
 use Rattle.call_turns.specs.Bodies.{Kept}
 use Rattle.call_turns.specs.Store.{Stored}
 
+-- a socket, as the bytes that wait for it and what of it is shut
 abbrev pub half_code : Coded Half
 half_code =
     code_by
@@ -17,6 +18,7 @@ half_code =
     (λ p. record { waiting = p.0; reading_shut = p.1.0; writing_shut = p.1.1 })
     (λ _. refl)
 
+-- what is kept under one object number, as its file, its pipe and its two sockets
 abbrev pub kept_code : Coded Kept
 kept_code =
     code_by
@@ -26,6 +28,7 @@ kept_code =
     (λ p. record { file = p.0; pipe = p.1.0; pair = record { side0 = p.1.1.0; side1 = p.1.1.1 } })
     (λ _. refl)
 
+-- the table and the bodies, as a pair
 abbrev pub stored_code : Coded Stored
 stored_code =
     code_by

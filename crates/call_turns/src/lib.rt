@@ -1,10 +1,10 @@
 //! The descriptor table with the bodies of its objects, for the lock machine: it makes one turn of
 //! a call at a time.
 //!
-//! `Store::settle_or_lock` makes the turn of a call that the table alone answers, and of any other
-//! tells which object it has to lock and what was decided of it, a [`Locking`]; then `Store::make`
-//! takes that and makes its turn, and asks that fewer than 2^127 descriptions and objects were ever
-//! made. The [`TurnStart`] is how the turn ended, or what the call asks outside: then
+//! `Store::settle_or_lock` makes the turn of a call that the table alone answers. Of any other it
+//! returns which object has to be locked and what was decided, a [`Locking`]. Then `Store::make`
+//! takes that and makes the turn; it requires that fewer than 2^127 descriptions and objects were
+//! ever made. The [`TurnStart`] is how the turn ended, or what the call asks outside: then
 //! [`end_outside`] ends it by the outcome, or `Store::open_door` where the call kept the table. By
 //! the contracts a turn does what the sequential object does. A call that cannot go on is blocked
 //! until it was for as many turns as its patience. Then it fails with `EINTR`, or returns the count

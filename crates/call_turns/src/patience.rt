@@ -4,7 +4,8 @@ ghost use Rattle.posix_terms.specs.Outcomes.{fits};
 ghost use Rattle.posix_terms.specs.declared.outcome.Outcome.TheVariants.{Fail as failure};
 ghost use Rattle.sequential_object.specs.Bytes.{reply_bytes};
 ghost use Rattle.descriptor_table.specs.Plans.{bytes_asked};
-ghost use Rattle.call_turns.specs.Patience.{EndsOutside, Waits, act_bytes, stopped_ending, turn_bytes};
+ghost use Rattle.call_turns.specs.Patience.{EndsOutside, Waits, act_bytes, stopped_ending};
+ghost use Rattle.call_turns.specs.Patience.{turn_bytes};
 
 use descriptor_table::Errand;
 use posix_terms::{Bytes, Carried, Errno, Moved, OutKind, Outcome, Reply};
@@ -79,7 +80,9 @@ pub fn end_outside(
     carried: Carried,
     room: &mut Vec<u8>,
 ) -> TurnEnd
-    ensures ends { fits errand.kind errand.asked outcome.now ≡ true → bytes_asked errand ≤ length room.old.items → EndsOutside patience carried errand outcome.now result }
+    ensures ends { fits errand.kind errand.asked outcome.now ≡ true
+        → bytes_asked errand ≤ length room.old.items
+        → EndsOutside patience carried errand outcome.now result }
     ensures few { turn_bytes result ≤ length room.old.items }
 {
     let (value, bytes) = match outcome {
@@ -94,7 +97,8 @@ pub fn end_outside(
     })
 }
 
-/// A copy of a reply. Its bytes take the room with them, which has to be as many bytes as there are in the reply, whatever
+/// A copy of a reply. Its bytes take the room with them, which has to
+/// be as many bytes as there are in the reply, whatever
 /// they are.
 pub fn copied(reply: &Reply, room: &mut Vec<u8>) -> Reply
     ensures { reply_bytes reply.now ≤ length room.old.items → result ≡ reply.now }

@@ -16,7 +16,7 @@ use sequential_object::TurnEnd;
 use std::alloc::{AllocError, Global};
 use std::marker::Model;
 
-/// The memory that a thread has for the bytes of its reply, for the one that is told and for its
+/// The memory that a thread has for the bytes of its reply, for the one that is given and for its
 /// copy in the row of the history; and for an outcome in that row. Contracts see how many bytes
 /// each has, and whether there is room for an outcome.
 #[derive(Drop)]
@@ -107,7 +107,8 @@ impl Room {
         ensures makes { Makes patience carried store.old call.now result store.new }
         ensures kept { KeepsStore (keeps_table call.now) result store.old store.new }
         ensures room { LeavesSpace result self.new }
-        ensures births { (store.new.table.descriptions.made ≤ store.old.table.descriptions.made + 2) × (store.new.table.made_objects ≤ store.old.table.made_objects + 1) }
+        ensures births { (store.new.table.descriptions.made ≤ store.old.table.descriptions.made + 2)
+            × (store.new.table.made_objects ≤ store.old.table.made_objects + 1) }
     {
         store.make(call, locking, patience, carried, &mut self.told)
     }
@@ -122,7 +123,8 @@ impl Room {
     ) -> TurnEnd
         requires asked { bytes_asked errand ≤ self.old.told }
         requires copy { self.old.told ≤ self.old.row }
-        ensures ends { fits errand.kind errand.asked outcome.now ≡ true → EndsOutside patience carried errand outcome.now result }
+        ensures ends { fits errand.kind errand.asked outcome.now ≡ true
+            → EndsOutside patience carried errand outcome.now result }
         ensures copy { turn_bytes result ≤ self.new.row }
     {
         end_outside(errand, outcome, patience, carried, &mut self.told)

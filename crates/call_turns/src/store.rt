@@ -32,7 +32,7 @@ use std::mem::replace;
 /// The shared descriptor table, and by object number the bodies of the objects.
 #[derive(Drop)]
 pub struct Store {
-    /// What descriptors, descriptions and names there are. It is public for `Table::made`, which tells what the
+    /// What descriptors, descriptions and names there are. It is public for `Table::made`, which says what the
     /// store asks of its caller. Whoever changes it otherwise than by the store's own functions may leave a store
     /// that stands for no world; `Makes` then says nothing.
     pub table: Table,
@@ -70,7 +70,7 @@ impl Store {
     }
 
     /// Makes the turn of a call that carries this, if the table alone answers it. Of any other call it
-    /// tells what was decided of it, with the number of the object that it has to lock beside the
+    /// returns what was decided of it, with the number of the object that it has to lock beside the
     /// table, and changes nothing.
     pub fn settle_or_lock(&mut self, call: &Call, carried: Carried) -> AtTable
         requires descriptions { self.old.table.descriptions.made < 2 ^ 127 }

@@ -143,8 +143,11 @@ impl Store {
 
     fn take_pair(&mut self, node: usize, side: Side, into: &mut [u8], peer_open: bool) -> PipeAnswer
         requires inside { node < limit.OBJECTS }
-        ensures answer { result ≡ read_answer (pair_read (kept_at self.old node).pair side (length into.old) peer_open) }
-        ensures left { self.new ≡ holding self.old node (Pair (left_by_read (kept_at self.old node).pair side (pair_read (kept_at self.old node).pair side (length into.old) peer_open))) }
+        ensures answer { result ≡ read_answer
+            (pair_read (kept_at self.old node).pair side (length into.old) peer_open) }
+        ensures left { self.new ≡ holding self.old node
+            (Pair (left_by_read (kept_at self.old node).pair side
+            (pair_read (kept_at self.old node).pair side (length into.old) peer_open))) }
         ensures bytes { into.new ≡ read_into (half_at (kept_at self.old node).pair side) into.old }
     {
         self.bodies[node].pair.take(side, into, peer_open)
@@ -152,8 +155,11 @@ impl Store {
 
     fn put_pair(&mut self, node: usize, side: Side, bytes: &[u8], peer_open: bool) -> PipeAnswer
         requires inside { node < limit.OBJECTS }
-        ensures answer { result ≡ write_answer (length bytes.now) (pair_write (kept_at self.old node).pair side bytes.now peer_open) }
-        ensures left { self.new ≡ holding self.old node (Pair (left_by_write (kept_at self.old node).pair side (pair_write (kept_at self.old node).pair side bytes.now peer_open))) }
+        ensures answer { result ≡ write_answer (length bytes.now)
+            (pair_write (kept_at self.old node).pair side bytes.now peer_open) }
+        ensures left { self.new ≡ holding self.old node
+            (Pair (left_by_write (kept_at self.old node).pair side
+            (pair_write (kept_at self.old node).pair side bytes.now peer_open))) }
     {
         self.bodies[node].pair.put(side, bytes, peer_open)
     }

@@ -22,14 +22,18 @@ shorter room bytes =
     omega arith
 
 pub returns-clause-ends : goal.returns-clause-ends
-returns-clause-ends c fit enough = succeeds c.args.patience c.args.carried c.args.errand c.args.outcome.now c.in-Ok.value c.in-Ok.bytes c.match-errand.result c.in-Ok.is told
+returns-clause-ends c fit enough = succeeds c.args.patience c.args.carried c.args.errand c.args.outcome.now
+    c.in-Ok.value c.in-Ok.bytes c.match-errand.result c.in-Ok.is told
   where
-    of_kind : (k : OutKind) → c.args.errand.kind ≡ k → told_outside k c.in-Ok.value c.in-Ok.bytes ≡ told_outside c.args.errand.kind c.in-Ok.value c.in-Ok.bytes
+    of_kind : (k : OutKind) → c.args.errand.kind ≡ k
+        → told_outside k c.in-Ok.value c.in-Ok.bytes ≡ told_outside c.args.errand.kind c.in-Ok.value c.in-Ok.bytes
     of_kind k is = ap (λ (x : OutKind). told_outside x c.in-Ok.value c.in-Ok.bytes) (sym is)
 
-    of_fit : (k : OutKind) → c.args.errand.kind ≡ k → fits k c.args.errand.asked (outcome.Ok c.in-Ok.value c.in-Ok.bytes) ≡ true
+    of_fit : (k : OutKind) → c.args.errand.kind ≡ k
+        → fits k c.args.errand.asked (outcome.Ok c.in-Ok.value c.in-Ok.bytes) ≡ true
     of_fit k is =
-        let fit_kind : fits k c.args.errand.asked c.args.outcome.now ≡ true = subst (λ (x : OutKind). fits x c.args.errand.asked c.args.outcome.now ≡ true) is fit in
+        let fit_kind : fits k c.args.errand.asked c.args.outcome.now ≡ true =
+        subst (λ (x : OutKind). fits x c.args.errand.asked c.args.outcome.now ≡ true) is fit in
         subst (λ (o : Outcome). fits k c.args.errand.asked o ≡ true) c.in-Ok.is fit_kind
 
     seeks : c.args.errand.kind ≡ out.Seek → nat_le c.in-Ok.value 9223372036854775807 ≡ true
@@ -38,27 +42,36 @@ returns-clause-ends c fit enough = succeeds c.args.patience c.args.carried c.arg
     -- all bytes of a read are in the room
     whole : c.args.errand.kind ≡ out.Read → take (length c.args.room.now.items) c.in-Ok.bytes ≡ c.in-Ok.bytes
     whole is =
-        let asked : c.args.errand.asked ≤ length c.args.room.now.items = subst (λ (k : OutKind). bytes_of_kind k c.args.errand.asked ≤ length c.args.room.now.items) is enough in
-        within c.in-Ok.bytes c.args.errand.asked (length c.args.room.now.items) (read_fits c.args.errand.asked c.in-Ok.value c.in-Ok.bytes (of_fit out.Read is)) asked
+        let asked : c.args.errand.asked ≤ length c.args.room.now.items =
+        subst (λ (k : OutKind). bytes_of_kind k c.args.errand.asked ≤ length c.args.room.now.items) is enough in
+        within c.in-Ok.bytes c.args.errand.asked (length c.args.room.now.items)
+        (read_fits c.args.errand.asked c.in-Ok.value c.in-Ok.bytes (of_fit out.Read is)) asked
 
     told : c.match-errand.result ≡ told_outside c.args.errand.kind c.in-Ok.value c.in-Ok.bytes
     told =
         elim c.match-errand.branch [
-          | in-Read w ↦ w.result-is ∙ ap (λ (l : List ℕ). reply.Data l) (w.filled.ensures ∙ ap (take (length c.args.room.now.items)) w.as_slice.ensures ∙ whole w.in-Read.is) ∙ of_kind out.Read w.in-Read.is
+          | in-Read w ↦ w.result-is ∙ ap (λ (l : List ℕ). reply.Data l) (w.filled.ensures
+              ∙ ap (take (length c.args.room.now.items)) w.as_slice.ensures ∙ whole w.in-Read.is)
+              ∙ of_kind out.Read w.in-Read.is
           | in-Write w ↦ w.result-is ∙ of_kind out.Write w.in-Write.is
           | in-Seek w ↦ w.result-is ∙ w.seek_reply.ensures.number (seeks w.in-Seek.is) ∙ of_kind out.Seek w.in-Seek.is
-          | in_default w ↦ w.result-is ∙ told_done c.args.errand.kind c.in-Ok.value c.in-Ok.bytes w.in_default.not-Read w.in_default.not-Write w.in_default.not-Seek
+          | in_default w ↦ w.result-is ∙ told_done c.args.errand.kind c.in-Ok.value c.in-Ok.bytes w.in_default.not-Read
+              w.in_default.not-Write w.in_default.not-Seek
         ]
 
 -- what is in the room is no more than there was room for
 pub returns-clause-few : goal.returns-clause-few
 returns-clause-few c =
     elim c.match-errand.branch [
-      | in-Read w ↦ brings c.match-errand.result (reply.Data w.filled.result) w.result-is (subst (λ (l : List ℕ). length l ≤ length c.args.room.now.items) (sym w.filled.ensures) (shorter (length c.args.room.now.items) w.as_slice.result.now))
+      | in-Read w ↦ brings c.match-errand.result (reply.Data w.filled.result) w.result-is
+          (subst (λ (l : List ℕ). length l ≤ length c.args.room.now.items) (sym w.filled.ensures)
+          (shorter (length c.args.room.now.items) w.as_slice.result.now))
       | in-Write w ↦ brings c.match-errand.result (reply.Count c.in-Ok.value) w.result-is (omega arith)
-      | in-Seek w ↦ subst (λ (r : Reply). reply_bytes r ≤ length c.args.room.now.items) (sym w.result-is) (subst (λ (n : ℕ). n ≤ length c.args.room.now.items) (sym w.seek_reply.ensures.few) (omega arith))
+      | in-Seek w ↦ subst (λ (r : Reply). reply_bytes r ≤ length c.args.room.now.items) (sym w.result-is)
+          (subst (λ (n : ℕ). n ≤ length c.args.room.now.items) (sym w.seek_reply.ensures.few) (omega arith))
       | in_default w ↦ brings c.match-errand.result reply.Done w.result-is (omega arith)
     ]
   where
-    brings : (r s : Reply) → r ≡ s → reply_bytes s ≤ length c.args.room.now.items → reply_bytes r ≤ length c.args.room.now.items
+    brings : (r s : Reply) → r ≡ s → reply_bytes s ≤ length c.args.room.now.items
+        → reply_bytes r ≤ length c.args.room.now.items
     brings r s is few = subst (λ (x : Reply). reply_bytes x ≤ length c.args.room.now.items) (sym is) few

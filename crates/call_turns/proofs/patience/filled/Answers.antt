@@ -1,4 +1,5 @@
-use Rattle.std.proofs.Common.{◌≡◌, ◌+◌, ◌-◌, ◌≤◌, ℕ, List, length, take, nat_le, Bool, true, false, refl, sym, ap, ◌∙◌, arith, rules}
+use Rattle.std.proofs.Common.{◌≡◌, ◌+◌, ◌-◌, ◌≤◌, ℕ, List, length, take, nat_le, Bool, true, false, refl, sym, ap, ◌∙◌}
+use Rattle.std.proofs.Common.{arith, rules}
 use Rattle.std.proofs.lemmas.Bool.Decides.{nat_tests}
 use Rattle.std.proofs.lemmas.List.{take_all}
 use Rattle.call_turns.proofs.patience.filled.Goals as goal
@@ -18,5 +19,7 @@ shortest bytes count room least = by_test (nat_le (length bytes) room) refl
 
 pub returns : goal.returns
 returns c =
-    let least : c.len-count.result + (length c.args.room.now.items - length c.args.bytes.now) ≡ length c.args.room.now.items = search rules in
-    c.from_vec.ensures ∙ c.copy_from_slice.ensures.items ∙ shortest c.args.bytes.now c.len-count.result (length c.args.room.now.items) least
+    let least : c.len-count.result + (length c.args.room.now.items - length c.args.bytes.now)
+    ≡ length c.args.room.now.items = search rules in
+    c.from_vec.ensures ∙ c.copy_from_slice.ensures.items
+    ∙ shortest c.args.bytes.now c.len-count.result (length c.args.room.now.items) least

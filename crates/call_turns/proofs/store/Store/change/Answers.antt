@@ -7,7 +7,8 @@ use Rattle.call_turns.proofs.Changing.{inside, stands_changed}
 use Rattle.call_turns.proofs.store.Store.change.Goals as goal
 
 pub clear-requires : goal.clear-requires
-clear-requires c = inside c.table_follows_step.ensures.follows c.args.self.now.table c.args.call.now c.args.change c.requires.can
+clear-requires c = inside c.table_follows_step.ensures.follows c.args.self.now.table c.args.call.now c.args.change
+    c.requires.can
 
 pub returns-clause-stands : goal.returns-clause-stands
 returns-clause-stands c = λ w st.
@@ -16,7 +17,8 @@ returns-clause-stands c = λ w st.
     let can : Can (view h.table) c.args.call.now c.args.change = rw (← c.self.view_is) at c.requires.can in
     let long : length h.bodies ≡ limit.OBJECTS = search rules in
     rw (← c.self.view_is, c.clear.ensures)
-    (stands_changed c.table_follows_step.ensures.follows h w stood long c.args.call.now c.carry_out.new.self c.args.change can
+    (stands_changed c.table_follows_step.ensures.follows h w stood long c.args.call.now c.carry_out.new.self
+    c.args.change can
     (record {
       sound = c.made.ensures.sound;
       described = c.made.ensures.births;

@@ -19,23 +19,32 @@ act-requires-clause-can c =
     let all : AreSound h.table.descriptions = search rules in
     let is : c.args.locking.deed ≡ deed.Acts c.in-Acts.act c.in-Acts.change = search rules in
     subst (λ (d : Deed). CanDo (view h.table) c.args.call.now c.args.locking.object d) is
-    (can_of c.table_follows_step.ensures.follows h c.args.call.now c.args.carried.moved c.args.locking sound all c.requires.decided)
+    (can_of c.table_follows_step.ensures.follows h c.args.call.now c.args.carried.moved c.args.locking sound all
+    c.requires.decided)
 
 pub returns-in-Reply-clause-makes : goal.returns-in-Reply-clause-makes
 returns-in-Reply-clause-makes c =
     let h : Stored = c.args.self.now in
-    let decided : IsDecided h c.args.call.now c.args.carried.moved (record { object = c.args.locking.object; deed = deed.Acts c.in-Acts.act c.in-Acts.change }) =
-    decided_by h c.args.call.now c.args.carried.moved c.args.locking (deed.Acts c.in-Acts.act c.in-Acts.change) c.in-Acts.is c.requires.decided in
-    act_replied c.table_follows_step.ensures.follows h c.args.call.now c.args.carried c.args.locking.object c.in-Acts.act c.in-Acts.change decided c.in-Reply.reply c.act.new.self c.args.patience
-    (subst (λ (e : ActEnd). EndsTurn c.args.carried h c.args.call.now e c.act.new.self) c.in-Reply.is c.act.ensures.ends)
+    let decided : IsDecided h c.args.call.now c.args.carried.moved
+    (record { object = c.args.locking.object; deed = deed.Acts c.in-Acts.act c.in-Acts.change }) =
+    decided_by h c.args.call.now c.args.carried.moved c.args.locking (deed.Acts c.in-Acts.act c.in-Acts.change)
+    c.in-Acts.is c.requires.decided in
+    act_replied c.table_follows_step.ensures.follows h c.args.call.now c.args.carried c.args.locking.object
+    c.in-Acts.act c.in-Acts.change decided c.in-Reply.reply c.act.new.self c.args.patience
+    (subst (λ (e : ActEnd). EndsTurn c.args.carried h c.args.call.now e c.act.new.self) c.in-Reply.is
+    c.act.ensures.ends)
 
 pub returns-in-Waits-clause-makes : goal.returns-in-Waits-clause-makes
 returns-in-Waits-clause-makes c =
     let h : Stored = c.args.self.now in
-    let decided : IsDecided h c.args.call.now c.args.carried.moved (record { object = c.args.locking.object; deed = deed.Acts c.in-Acts.act c.in-Acts.change }) =
-    decided_by h c.args.call.now c.args.carried.moved c.args.locking (deed.Acts c.in-Acts.act c.in-Acts.change) c.in-Acts.is c.requires.decided in
-    act_waits c.table_follows_step.ensures.follows h c.args.call.now c.args.carried c.args.locking.object c.in-Acts.act c.in-Acts.change decided c.in-Waits.moved c.blocked.result c.act.new.self c.args.patience
-    (subst (λ (e : ActEnd). EndsTurn c.args.carried h c.args.call.now e c.act.new.self) c.in-Waits.is c.act.ensures.ends) c.blocked.ensures.waits
+    let decided : IsDecided h c.args.call.now c.args.carried.moved
+    (record { object = c.args.locking.object; deed = deed.Acts c.in-Acts.act c.in-Acts.change }) =
+    decided_by h c.args.call.now c.args.carried.moved c.args.locking (deed.Acts c.in-Acts.act c.in-Acts.change)
+    c.in-Acts.is c.requires.decided in
+    act_waits c.table_follows_step.ensures.follows h c.args.call.now c.args.carried c.args.locking.object c.in-Acts.act
+    c.in-Acts.change decided c.in-Waits.moved c.blocked.result c.act.new.self c.args.patience
+    (subst (λ (e : ActEnd). EndsTurn c.args.carried h c.args.call.now e c.act.new.self) c.in-Waits.is
+    c.act.ensures.ends) c.blocked.ensures.waits
 
 pub returns-in-Asks-clause-makes : goal.returns-in-Asks-clause-makes
 returns-in-Asks-clause-makes c =
@@ -43,10 +52,15 @@ returns-in-Asks-clause-makes c =
     let law = c.table_follows_step.ensures.follows in
     let sound : IsSound h.table = search rules in
     let all : AreSound h.table.descriptions = search rules in
-    let decided : IsDecided h c.args.call.now c.args.carried.moved (record { object = c.args.locking.object; deed = deed.Asks c.in-Asks.blocks }) =
-    decided_by h c.args.call.now c.args.carried.moved c.args.locking (deed.Asks c.in-Asks.blocks) c.in-Asks.is c.requires.decided in
-    let can : CanDo (view h.table) c.args.call.now c.args.locking.object (deed.Asks c.in-Asks.blocks) = can_of law h c.args.call.now c.args.carried.moved (record { object = c.args.locking.object; deed = deed.Asks c.in-Asks.blocks }) sound all decided in
-    rw c.errand_of.ensures (goes_asking law h c.args.call.now c.args.carried c.args.locking.object c.in-Asks.blocks decided can.2 c.args.patience)
+    let decided : IsDecided h c.args.call.now c.args.carried.moved
+    (record { object = c.args.locking.object; deed = deed.Asks c.in-Asks.blocks }) =
+    decided_by h c.args.call.now c.args.carried.moved c.args.locking (deed.Asks c.in-Asks.blocks) c.in-Asks.is
+    c.requires.decided in
+    let can : CanDo (view h.table) c.args.call.now c.args.locking.object (deed.Asks c.in-Asks.blocks) =
+    can_of law h c.args.call.now c.args.carried.moved
+    (record { object = c.args.locking.object; deed = deed.Asks c.in-Asks.blocks }) sound all decided in
+    rw c.errand_of.ensures (goes_asking law h c.args.call.now c.args.carried c.args.locking.object c.in-Asks.blocks
+    decided can.2 c.args.patience)
 
 pub returns-in-Closes-clause-makes : goal.returns-in-Closes-clause-makes
 returns-in-Closes-clause-makes c =
@@ -55,11 +69,15 @@ returns-in-Closes-clause-makes c =
     let sound : IsSound h.table = search rules in
     let all : AreSound h.table.descriptions = search rules in
     let does : Deed = deed.Closes c.in-Closes.number c.in-Closes.key in
-    let decided : IsDecided h c.args.call.now c.args.carried.moved (record { object = c.args.locking.object; deed = does }) =
+    let decided : IsDecided h c.args.call.now c.args.carried.moved
+    (record { object = c.args.locking.object; deed = does }) =
     decided_by h c.args.call.now c.args.carried.moved c.args.locking does c.in-Closes.is c.requires.decided in
-    let can : CanDo (view h.table) c.args.call.now c.args.locking.object does = can_of law h c.args.call.now c.args.carried.moved (record { object = c.args.locking.object; deed = does }) sound all decided in
+    let can : CanDo (view h.table) c.args.call.now c.args.locking.object does =
+    can_of law h c.args.call.now c.args.carried.moved (record { object = c.args.locking.object; deed = does })
+    sound all decided in
     rw c.errand_of-in-Closes.ensures
-    (goes_closing law h c.args.call.now c.args.carried c.args.locking.object c.in-Closes.number c.in-Closes.key c.change.new.self decided can.3 c.change.ensures.stands c.args.patience)
+    (goes_closing law h c.args.call.now c.args.carried c.args.locking.object c.in-Closes.number c.in-Closes.key
+    c.change.new.self decided can.3 c.change.ensures.stands c.args.patience)
 
 pub returns-in-Closes-clause-room : goal.returns-in-Closes-clause-room
 returns-in-Closes-clause-room c =
@@ -67,10 +85,12 @@ returns-in-Closes-clause-room c =
     let sound : IsSound h.table = search rules in
     let all : AreSound h.table.descriptions = search rules in
     let does : Deed = deed.Closes c.in-Closes.number c.in-Closes.key in
-    let decided : IsDecided h c.args.call.now c.args.carried.moved (record { object = c.args.locking.object; deed = does }) =
+    let decided : IsDecided h c.args.call.now c.args.carried.moved
+    (record { object = c.args.locking.object; deed = does }) =
     decided_by h c.args.call.now c.args.carried.moved c.args.locking does c.in-Closes.is c.requires.decided in
     let can : CanDo (view h.table) c.args.call.now c.args.locking.object does =
-    can_of c.table_follows_step.ensures.follows h c.args.call.now c.args.carried.moved (record { object = c.args.locking.object; deed = does }) sound all decided in
+    can_of c.table_follows_step.ensures.follows h c.args.call.now c.args.carried.moved
+    (record { object = c.args.locking.object; deed = does }) sound all decided in
     rw c.errand_of-in-Closes.ensures (refl, can.2)
 
 pub returns-in-Opens-clause-makes : goal.returns-in-Opens-clause-makes
@@ -80,8 +100,12 @@ returns-in-Opens-clause-makes c =
     let sound : IsSound h.table = search rules in
     let all : AreSound h.table.descriptions = search rules in
     let does : Deed = deed.Opens c.in-Opens.blocks c.in-Opens.listener c.in-Opens.new in
-    let decided : IsDecided h c.args.call.now c.args.carried.moved (record { object = c.args.locking.object; deed = does }) =
+    let decided : IsDecided h c.args.call.now c.args.carried.moved
+    (record { object = c.args.locking.object; deed = does }) =
     decided_by h c.args.call.now c.args.carried.moved c.args.locking does c.in-Opens.is c.requires.decided in
-    let can : CanDo (view h.table) c.args.call.now c.args.locking.object does = can_of law h c.args.call.now c.args.carried.moved (record { object = c.args.locking.object; deed = does }) sound all decided in
+    let can : CanDo (view h.table) c.args.call.now c.args.locking.object does =
+    can_of law h c.args.call.now c.args.carried.moved (record { object = c.args.locking.object; deed = does })
+    sound all decided in
     rw c.errand_of-in-Opens.ensures
-    (goes_opening law h c.args.call.now c.args.carried c.args.locking.object c.in-Opens.blocks c.in-Opens.listener c.in-Opens.new decided can.0.keeps can.0.takes c.args.patience)
+    (goes_opening law h c.args.call.now c.args.carried c.args.locking.object c.in-Opens.blocks c.in-Opens.listener
+    c.in-Opens.new decided can.0.keeps can.0.takes c.args.patience)

@@ -29,10 +29,13 @@ returns-in_default c =
     let h : Stored = c.args.self.now in
     let sound : IsSound h.table = search rules in
     let all : AreSound h.table.descriptions = search rules in
-    let can : CanDo (view h.table) c.args.call.now c.args.locking.object c.args.locking.deed = can_of c.table_follows_step.ensures.follows h c.args.call.now c.args.carried.moved c.args.locking sound all c.requires.decided in
+    let can : CanDo (view h.table) c.args.call.now c.args.locking.object c.args.locking.deed =
+    can_of c.table_follows_step.ensures.follows h c.args.call.now c.args.carried.moved c.args.locking sound all
+    c.requires.decided in
     record {
       opens = no_door h c.args.call.now c.args.carried c.args.outcome.now (end.Reply (reply.Fail EIO)) h c.args.patience
-          (keeps_none (view h.table) c.args.call.now c.args.locking.object c.args.locking.deed can c.in_default.not-Opens);
+          (keeps_none (view h.table) c.args.call.now c.args.locking.object c.args.locking.deed can
+          c.in_default.not-Opens);
       few = refl;
       births = (omega arith, omega arith);
     }
@@ -44,40 +47,59 @@ returns-in-Ok-clause-opens c =
     let sound : IsSound h.table = search rules in
     let all : AreSound h.table.descriptions = search rules in
     let does : Deed = deed.Opens c.in-Opens.blocks c.in-Opens.listener c.in-Opens.new in
-    let decided : IsDecided h c.args.call.now c.args.carried.moved (record { object = c.args.locking.object; deed = does }) =
+    let decided : IsDecided h c.args.call.now c.args.carried.moved
+    (record { object = c.args.locking.object; deed = does }) =
     decided_by h c.args.call.now c.args.carried.moved c.args.locking does c.in-Opens.is c.requires.decided in
-    let can : CanDo (view h.table) c.args.call.now c.args.locking.object does = can_of law h c.args.call.now c.args.carried.moved (record { object = c.args.locking.object; deed = does }) sound all decided in
+    let can : CanDo (view h.table) c.args.call.now c.args.locking.object does =
+    can_of law h c.args.call.now c.args.carried.moved (record { object = c.args.locking.object; deed = does })
+    sound all decided in
     let long : length h.bodies ≡ limit.OBJECTS = search rules in
     let number : to_z w64 (of_z w64 c.open_door-number.result) ≡ pos c.in-Opens.new.number = search rules in
     let next : free_object h.table ≡ Some c.in-Opens.new.object = search rules in
     let sound_after : IsSound c.open_door-number.new.self = search rules in
     let all_after : AreSound c.open_door-number.new.self.descriptions = search rules in
-    let shows : (s : State) → Shows h.table s → Shows c.open_door-number.new.self (door_opened s c.args.call.now (new_by (names_of h.table) c.in-Opens.new) c.in-Ok.value) = rw (← c.self.view_is) c.open_door-number.ensures.shows in
+    let shows : (s : State) → Shows h.table s
+    → Shows c.open_door-number.new.self
+    (door_opened s c.args.call.now (new_by (names_of h.table) c.in-Opens.new) c.in-Ok.value) =
+    rw (← c.self.view_is) c.open_door-number.ensures.shows in
     let numbers : NumbersStay h.table c.open_door-number.new.self = search rules in
     rw (number, c.in-Ok.is, ap (λ (s : Stored). s.bodies) c.self.view_is)
-    (door_opens law h c.args.call.now c.args.carried c.args.locking.object c.in-Opens.blocks c.in-Opens.listener c.in-Opens.new decided
+    (door_opens law h c.args.call.now c.args.carried c.args.locking.object c.in-Opens.blocks c.in-Opens.listener
+    c.in-Opens.new decided
     c.open_door-number.new.self c.in-Ok.value c.in-Ok.bytes c.args.patience long next
-    (λ w stands. record { sound = sound_after; described = all_after; shows = shows w.object stands.shows; numbers = numbers }))
+    (λ w stands. record {
+      sound = sound_after;
+      described = all_after;
+      shows = shows w.object stands.shows;
+      numbers = numbers;
+    }))
 
 pub returns-in-Ok-2-clause-opens : goal.returns-in-Ok-2-clause-opens
 returns-in-Ok-2-clause-opens c =
     let h : Stored = c.args.self.now in
     let does : Deed = deed.Opens c.in-Opens.blocks c.in-Opens.listener c.in-Opens.new in
-    let decided : IsDecided h c.args.call.now c.args.carried.moved (record { object = c.args.locking.object; deed = does }) =
+    let decided : IsDecided h c.args.call.now c.args.carried.moved
+    (record { object = c.args.locking.object; deed = does }) =
     decided_by h c.args.call.now c.args.carried.moved c.args.locking does c.in-Opens.is c.requires.decided in
     let off : at_port c.args.call.now c.in-Ok-2.value ≡ false = search rules in
     rw c.in-Ok-2.is
-    (off_port c.table_follows_step.ensures.follows h c.args.call.now c.args.carried c.args.locking.object c.in-Opens.blocks c.in-Opens.listener c.in-Opens.new decided
+    (off_port c.table_follows_step.ensures.follows h c.args.call.now c.args.carried c.args.locking.object
+    c.in-Opens.blocks c.in-Opens.listener c.in-Opens.new decided
     c.in-Ok-2.value c.in-Ok-2.bytes (end.Reply (reply.Fail EIO)) h c.args.patience off)
 
 pub returns-in-Fail-clause-opens : goal.returns-in-Fail-clause-opens
 returns-in-Fail-clause-opens c =
     let h : Stored = c.args.self.now in
     let does : Deed = deed.Opens c.in-Opens.blocks c.in-Opens.listener c.in-Opens.new in
-    let decided : IsDecided h c.args.call.now c.args.carried.moved (record { object = c.args.locking.object; deed = does }) =
+    let decided : IsDecided h c.args.call.now c.args.carried.moved
+    (record { object = c.args.locking.object; deed = does }) =
     decided_by h c.args.call.now c.args.carried.moved c.args.locking does c.in-Opens.is c.requires.decided in
-    let ends : EndsOutside c.args.patience c.args.carried (errand_of c.args.call.now c.in-Opens.blocks c.in-Opens.listener) (outcome.Fail c.in-Fail.error) c.fail_outside.result =
-    subst (λ (e : Errand). EndsOutside c.args.patience c.args.carried e (outcome.Fail c.in-Fail.error) c.fail_outside.result) c.errand_of.ensures c.fail_outside.ensures.ends in
+    let ends : EndsOutside c.args.patience c.args.carried
+    (errand_of c.args.call.now c.in-Opens.blocks c.in-Opens.listener) (outcome.Fail c.in-Fail.error)
+    c.fail_outside.result =
+    subst (λ (e : Errand). EndsOutside c.args.patience c.args.carried e (outcome.Fail c.in-Fail.error)
+    c.fail_outside.result) c.errand_of.ensures c.fail_outside.ensures.ends in
     rw c.in-Fail.is
-    (door_fails c.table_follows_step.ensures.follows h c.args.call.now c.args.carried c.args.locking.object c.in-Opens.blocks c.in-Opens.listener c.in-Opens.new decided
+    (door_fails c.table_follows_step.ensures.follows h c.args.call.now c.args.carried c.args.locking.object
+    c.in-Opens.blocks c.in-Opens.listener c.in-Opens.new decided
     c.in-Fail.error c.fail_outside.result c.args.patience ends)

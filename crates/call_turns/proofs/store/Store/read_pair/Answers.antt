@@ -22,13 +22,18 @@ returns-clause-acts c =
     let answered : c.take_pair-answer.result ≡ read_answer r = search rules in
     let filled : c.take_pair-answer.new.into ≡ read_into (half_at p c.args.side) place = search rules in
     let whole : length c.take_pair-answer.new.into ≡ c.args.into.len = search rules in
-    let kept : take c.args.into.len (c.take_pair-answer.new.into ++ drop (length c.take_pair-answer.new.into) place) ≡ c.take_pair-answer.new.into =
+    let kept : take c.args.into.len (c.take_pair-answer.new.into ++ drop (length c.take_pair-answer.new.into) place)
+    ≡ c.take_pair-answer.new.into =
     ap (λ (k : ℕ). take k (c.take_pair-answer.new.into ++ drop (length c.take_pair-answer.new.into) place)) (sym whole)
     ∙ take-append_seam c.take_pair-answer.new.into (drop (length c.take_pair-answer.new.into) place) in
-    let as_answered : c.read_ending.result ≡ ending_of_read c.take_pair-answer.result c.take_pair-answer.new.into c.args.from.nonblock =
-    c.read_ending.ensures.shown ∙ ap (λ (l : List ℕ). ending_of_read c.take_pair-answer.result l c.args.from.nonblock) kept in
+    let as_answered : c.read_ending.result ≡ ending_of_read c.take_pair-answer.result c.take_pair-answer.new.into
+    c.args.from.nonblock =
+    c.read_ending.ensures.shown ∙ ap (λ (l : List ℕ). ending_of_read c.take_pair-answer.result l c.args.from.nonblock)
+    kept in
     let told = as_answered ∙ ap₂ (λ a b. ending_of_read a b c.args.from.nonblock) answered filled in
-    let left : c.take_pair-answer.new.self ≡ holding h c.args.node (Pair (left_by_read p c.args.side r)) = search rules in
+    let left : c.take_pair-answer.new.self ≡ holding h c.args.node (Pair (left_by_read p c.args.side r)) =
+    search rules in
     let inside : c.args.node < length h.bodies = search rules in
-    read_of_pair h c.args.node inside c.args.from c.args.side place (peer_open && not (half_at p (peer_of c.args.side)).writing_shut)
+    read_of_pair h c.args.node inside c.args.from c.args.side place (peer_open
+    && not (half_at p (peer_of c.args.side)).writing_shut)
     c.read_ending.result c.take_pair-answer.new.self told left

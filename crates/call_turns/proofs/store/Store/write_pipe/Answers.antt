@@ -21,7 +21,9 @@ returns-clause-acts c =
     let whole = nat_le (length bytes) limit.PIPE_BUF in
     let now = length (bytes_put limit.PIPE_BYTES waiting rest whole) in
     let w = pipe_write waiting rest whole (is_open h.table node part.Read) in
-    let told : c.pipe_ending.result ≡ ending_of_pipe c.args.to (length bytes) c.args.before (write_answer now w) = search rules in
+    let told : c.pipe_ending.result ≡ ending_of_pipe c.args.to (length bytes) c.args.before (write_answer now w) =
+    search rules in
     let left : c.put_pipe-answer.new.self ≡ holding h node (Pipe (left_by_write waiting w)) = search rules in
     let inside : node < length h.bodies = search rules in
-    written_pipe h node inside c.args.to (length bytes) c.args.before now w c.pipe_ending.result c.put_pipe-answer.new.self told left
+    written_pipe h node inside c.args.to (length bytes) c.args.before now w c.pipe_ending.result
+    c.put_pipe-answer.new.self told left
