@@ -14,6 +14,7 @@ pub record Conditions : Type 0 where
   pub settings : Settings
   pub supply : Supply
 
+-- the setup of the lock machine with the real calls, under these conditions
 abbrev pub setup_under : Conditions → Setup
 setup_under terms = real_setup terms.settings terms.supply
 

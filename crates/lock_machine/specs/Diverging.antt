@@ -6,6 +6,7 @@ use Rattle.lock_model.specs.State.{Phase, State, Thread, thread_of}
 use Rattle.lock_model.specs.State.Phase.{Outside}
 use Rattle.posix_terms.specs.declared.outcome.Given.{Given}
 
+-- a thread in this phase is outside, and an outcome is there that does not answer its call
 abbrev pub diverging_in : Setup → Phase → Option Given → Bool
 diverging_in setup (Outside job) (Some given) = not (fits_job setup.calls job given)
 diverging_in setup (Outside job) None = false

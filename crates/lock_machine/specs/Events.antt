@@ -1,6 +1,7 @@
 -- Internal: no contract of the headline or of a command stands on it.
 -- What the events of a thread make of it and of what it shares.
-use Rattle.std.specs.Prelude.{◌≡◌, ℕ, ◌+◌, ◌<◌, ◌^◌, List, [], ◌∷◌, ◌++◌, length, Option, Some, None, Bool, true, false, ◌&&◌, nat_le, slice_get, slice_set}
+use Rattle.std.specs.Prelude.{◌≡◌, ℕ, ◌+◌, ◌<◌, ◌^◌, List, [], ◌∷◌, ◌++◌, length, Option, Some}
+use Rattle.std.specs.Prelude.{None, Bool, true, false, ◌&&◌, nat_le, slice_get, slice_set}
 use Rattle.sequential_object.specs.Locked.{keeps_table}
 use Rattle.posix_terms.specs.Calls.{Call}
 use Rattle.posix_terms.specs.declared.reply.Answer as posix
@@ -26,6 +27,7 @@ pub record Parts : Type 0 where
   pub table : Stored
   pub rows : List HistoryRow
 
+-- a thread with a lock, the table and the rows, taken together
 abbrev pub parts : Thread → DetLock → Stored → List HistoryRow → Parts
 parts thread lock table rows = record { thread = thread; lock = lock; table = table; rows = rows }
 
@@ -33,6 +35,7 @@ parts thread lock table rows = record { thread = thread; lock = lock; table = ta
 abbrev pub in_time : Parts → ℕ → Bool
 in_time p cost = nat_le (p.thread.clock + cost) (2 ^ 62)
 
+-- with the thread's clock moved on by so much
 abbrev pub later : Parts → ℕ → Parts
 later p cost = record p { thread = record p.thread { clock = p.thread.clock + cost } }
 
@@ -48,6 +51,8 @@ row_answered p row e q =
       rows = slice_set p.rows row (record q { answer = Some (told_as e) });
     }
 
+-- by how the turn ended and by the call's row: the answer is given, or nothing changes where one
+-- of them is missing
 abbrev pub AnswersWith : Option posix.Answer → ℕ → Option TurnEnd → Option HistoryRow → Parts
     → Parts → Type 0
 AnswersWith told row (Some e) (Some q) old new =
@@ -55,18 +60,21 @@ AnswersWith told row (Some e) (Some q) old new =
 AnswersWith told row (Some e) None old new = (told ≡ None) × (new ≡ old)
 AnswersWith told row None q old new = (told ≡ None) × (new ≡ old)
 
+-- by whether the thread holds the lock and its clock has room: its call is answered, or nothing
+-- changes
 abbrev pub AnswersIn : Bool → Option posix.Answer → ℕ → Parts → Parts → Type 0
 AnswersIn true told row old new =
     AnswersWith told row (end_held old.thread.phase) (slice_get old.rows row) old new
 AnswersIn false told row old new = (told ≡ None) × (new ≡ old)
 
--- the answer is told, where there is one
+-- the answer is given, where there is one
 abbrev pub Answers : Option posix.Answer → ℕ → ℕ → Parts → Parts → Type 0
 Answers told i row old new =
     AnswersIn (is_number old.lock.holder i && in_time old 1) told row old new
 
 -- ## The grant
 
+-- the row of a call that was just granted, without an outcome or an answer
 abbrev pub granted_row : Turn → Call → HistoryRow
 granted_row turn call = record { call = call; turn = turn; outcome = None; answer = None }
 
@@ -88,6 +96,7 @@ PlansTo patience (Some object) turn call carried old new =
     let phase = phase.WantsObject call carried turn.clock object in
     (object < limit.OBJECTS) × (new ≡ record old { thread = record old.thread { phase = phase } })
 
+-- by whether the lock of the table opens: thread i takes it for its call, or its attempt fails
 abbrev pub TriesLock : ℕ → Bool → ℕ → Call → Carried → Parts → Parts → Type 0
 TriesLock patience true i call carried old new =
     PlansTo patience (number_locked old.table call carried)
@@ -95,16 +104,19 @@ TriesLock patience true i call carried old new =
     (record (later old 1) { lock = held i old.lock }) new
 TriesLock patience false i call carried old new = new ≡ later old 1
 
+-- by whether the clock has room: the attempt for the table is made, or nothing changes
 abbrev pub TriesInTime : ℕ → Bool → Bool → ℕ → Call → Carried → Parts → Parts → Type 0
 TriesInTime patience true made i call carried old new =
     (made ≡ true) × TriesLock patience (takes old.lock old.thread.clock) i call carried old new
 TriesInTime patience false made i call carried old new = (made ≡ false) × (new ≡ old)
 
+-- in this phase: a thread that wants the table attempts its lock, any other does nothing
 abbrev pub TriesIn : ℕ → Phase → Bool → ℕ → Parts → Parts → Type 0
 TriesIn patience (phase.WantsTable call carried) made i old new =
     TriesInTime patience (in_time old 1) made i call carried old new
 TriesIn patience p made i old new = (made ≡ false) × (new ≡ old)
 
+-- thread i attempts the lock of the table, where its phase and its clock let it
 abbrev pub Tries : ℕ → Bool → ℕ → Parts → Parts → Type 0
 Tries patience made i old new = TriesIn patience old.thread.phase made i old new
 
@@ -141,6 +153,7 @@ GrantsObject patience (phase.WantsObject call carried clock object) i old new =
     Grants patience (record { clock = clock; thread = i }) call carried (Some object) old new
 GrantsObject patience p i old new = new ≡ old
 
+-- by whether thread i takes the object's lock: its call is granted with it, or the attempt fails
 abbrev pub TriesObject : ℕ → Bool → ℕ → Turn → Call → Carried → ℕ → DetLock → DetLock → Parts
     → Parts → Type 0
 TriesObject patience true i turn call carried object lock now old new =
@@ -149,6 +162,7 @@ TriesObject patience true i turn call carried object lock now old new =
 TriesObject patience false i turn call carried object lock now old new =
     (now ≡ lock) × (new ≡ later old 1)
 
+-- by whether the clock has room: the attempt for the object is made, or nothing changes
 abbrev pub ObjectInTime : ℕ → Bool → Bool → Bool → ℕ → Turn → Call → Carried → ℕ → DetLock → DetLock
     → Parts → Parts → Type 0
 ObjectInTime patience true takes made i turn call carried object lock now old new =
@@ -156,6 +170,7 @@ ObjectInTime patience true takes made i turn call carried object lock now old ne
 ObjectInTime patience false takes made i turn call carried object lock now old new =
     (made ≡ false) × (now ≡ lock) × (new ≡ old)
 
+-- in this phase: a thread that wants an object attempts its lock, any other does nothing
 abbrev pub ReachesIn : ℕ → Phase → Bool → ℕ → DetLock → DetLock → Parts → Parts → Type 0
 ReachesIn patience (phase.WantsObject call carried clock object) made i lock now old new =
     let taken = takes_object i lock old in
@@ -163,6 +178,7 @@ ReachesIn patience (phase.WantsObject call carried clock object) made i lock now
     (record { clock = clock; thread = i }) call carried object lock now old new
 ReachesIn patience p made i lock now old new = (made ≡ false) × (now ≡ lock) × (new ≡ old)
 
+-- thread i attempts the lock of the object that it wants, where its phase and its clock let it
 abbrev pub Reaches : ℕ → Bool → ℕ → DetLock → DetLock → Parts → Parts → Type 0
 Reaches patience made i lock now old new =
     ReachesIn patience old.thread.phase made i lock now old new

@@ -33,6 +33,7 @@ phase_started row object c carried (start.GoesOut errand) =
       keeps_table = keeps_table c;
     })
 
+-- a thread whose call was granted with this row and object, and whose turn started so
 abbrev pub turn_started : ℕ → Option ℕ → Call → Carried → TurnStart → Thread → Thread
 turn_started row object c carried start t =
     record t { phase = phase_started row object c carried start }

@@ -6,10 +6,12 @@ use Rattle.lock_machine.specs.declared.thread.Phase.{Phase}
 use Rattle.lock_machine.specs.declared.thread.Phase.TheVariants as phase
 use Rattle.lock_machine.specs.declared.thread.Thread.{Thread}
 
+-- a thread in this phase has not ended
 abbrev pub is_live : Phase → Bool
 is_live phase.Ended = false
 is_live p = true
 
+-- of each thread whether it is live, by its phase
 abbrev pub lives : List Thread → List Bool
 lives threads = map (λ (t : Thread). is_live t.phase) threads
 

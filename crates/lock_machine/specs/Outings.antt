@@ -1,6 +1,7 @@
 -- Internal: no contract of the headline or of a command stands on it.
 -- What the events of a call make of it that goes outside.
-use Rattle.std.specs.Prelude.{◌≡◌, ℕ, ◌+◌, ◌^◌, List, Option, Some, None, Bool, true, false, not, ◌&&◌, ◌||◌, nat_le, nat_lt, slice_get, slice_set}
+use Rattle.std.specs.Prelude.{◌≡◌, ℕ, ◌+◌, ◌^◌, List, Option, Some, None, Bool, true, false, not}
+use Rattle.std.specs.Prelude.{◌&&◌, ◌||◌, nat_le, nat_lt, slice_get, slice_set}
 use Rattle.descriptor_table.specs.declared.plan.Errand.{Errand}
 use Rattle.det_mutex.specs.Attempt.{freed}
 use Rattle.det_mutex.specs.declared.lock.DetLock.{DetLock}
@@ -25,11 +26,13 @@ use Rattle.lock_machine.specs.declared.thread.Phase.TheVariants as phase
 
 -- ## `begin_outside`
 
+-- by whether it can: the call goes outside for this cost, or nothing changes
 abbrev pub BeginsIf : Bool → ℕ → Outing → Bool → Thread → Thread → Type 0
 BeginsIf true cost o moved old new =
     (moved ≡ true) × (new ≡ record old { phase = phase.Outside o; clock = old.clock + cost })
 BeginsIf false cost o moved old new = (moved ≡ false) × (new ≡ old)
 
+-- a call goes outside, where its thread can have one more outcome and its clock has room
 abbrev pub Begins : ℕ → Outing → Bool → Thread → Thread → Type 0
 Begins cost o moved old new =
     BeginsIf (nat_lt old.came limit.OUTCOMES
@@ -42,6 +45,7 @@ pub record RecordedParts : Type 0 where
   pub thread : Thread
   pub rows : List HistoryRow
 
+-- a thread and the rows, taken together
 abbrev pub recorded_parts : Thread → List HistoryRow → RecordedParts
 recorded_parts thread rows = record { thread = thread; rows = rows }
 
@@ -61,9 +65,11 @@ abbrev pub progress_at : Option HistoryRow → Outing → Given → Bool → Pro
 progress_at (Some q) o g room = progress_by (answers_errand o.errand q.turn g) room
 progress_at None o g room = progress.Stays
 
+-- the thread can count one outcome more
 abbrev pub can_count : Thread → Bool
 can_count t = nat_lt (t.came + 1) (2 ^ 32)
 
+-- this outcome has come: it is in the call's row, and the thread has counted it
 abbrev pub row_recorded : Outing → Given → HistoryRow → RecordedParts → RecordedParts
 row_recorded o g q p =
     record {
@@ -78,6 +84,8 @@ abbrev pub RecordsIf : Bool → Bool → Progress → Outing → Given → Histo
 RecordsIf true true made o g q old new = (made ≡ progress.Moves) × (new ≡ row_recorded o g q old)
 RecordsIf answers room made o g q old new = (made ≡ progress_by answers room) × (new ≡ old)
 
+-- by the call's row: the outcome comes where it answers at the turn of that row and the thread
+-- can count one more; where the row is not there, nothing changes
 abbrev pub RecordsRow : Option HistoryRow → Progress → Outing → Given
     → RecordedParts → RecordedParts → Type 0
 RecordsRow (Some q) made o g old new =
@@ -98,6 +106,7 @@ pub record OutsideParts : Type 0 where
   pub table : Stored
   pub rows : List HistoryRow
 
+-- a thread with the locks of its object and of the table, the table and the rows, taken together
 abbrev pub outside_parts : Thread → DetLock → DetLock → Stored → List HistoryRow → OutsideParts
 outside_parts thread object lock table rows = record {
   thread = thread;
@@ -114,10 +123,12 @@ EndsTurn false patience o c x e old new =
     (fits o.errand.kind o.errand.asked x ≡ true → EndsOutside patience o.carried o.errand x e)
     × (new ≡ old)
 
+-- the lock of the table after an answer: freed at this clock where the call kept it
 abbrev pub table_freed : Bool → ℕ → DetLock → DetLock
 table_freed true clock lock = freed clock
 table_freed false clock lock = lock
 
+-- what an answer adds to the clock: 1 for each lock that it frees
 abbrev pub answer_cost : Bool → ℕ
 answer_cost true = 2
 answer_cost false = 1
@@ -126,6 +137,7 @@ answer_cost false = 1
 abbrev pub went_on : TurnEnd → Thread → Thread
 went_on e t = record t { phase = phase_behind e }
 
+-- the call is answered: its row has the answer, its locks are free, and its thread goes on
 abbrev pub row_concluded : Outing → HistoryRow → TurnEnd → Stored → OutsideParts → OutsideParts
 row_concluded o q e table p =
     record {
@@ -136,9 +148,12 @@ row_concluded o q e table p =
       rows = slice_set p.rows o.row (record q { answer = Some (told_as e) });
     }
 
+-- no answer is given, and nothing changes
 abbrev pub StaysSo : Option posix.Answer → OutsideParts → OutsideParts → Type 0
 StaysSo told old new = (told ≡ None) × (new ≡ old)
 
+-- by whether the clock has room: the turn ends with this outcome and is answered, or nothing
+-- changes
 abbrev pub ConcludesIf : Bool → ℕ → Option posix.Answer → Outing → HistoryRow → Outcome
     → OutsideParts → OutsideParts → Type 0
 ConcludesIf true patience told o q x old new =
@@ -148,6 +163,7 @@ ConcludesIf true patience told o q x old new =
     × (new ≡ row_concluded o q e new.table old))
 ConcludesIf false patience told o q x old new = StaysSo told old new
 
+-- by the outcome in the row: the call is answered with it, or nothing changes where none came
 abbrev pub ConcludesWith : Option Outcome → HistoryRow → ℕ → Option posix.Answer → Outing
     → OutsideParts → OutsideParts → Type 0
 ConcludesWith (Some x) q patience told o old new =
@@ -155,18 +171,20 @@ ConcludesWith (Some x) q patience told o old new =
     (nat_le (old.thread.clock + answer_cost o.keeps_table) (2 ^ 62)) patience told o q x old new
 ConcludesWith None q patience told o old new = StaysSo told old new
 
+-- by the call's row: the call is answered in it, or nothing changes where it is not there
 abbrev pub ConcludesRow : Option HistoryRow → ℕ → Option posix.Answer → Outing → OutsideParts
     → OutsideParts → Type 0
 ConcludesRow (Some q) patience told o old new = ConcludesWith q.outcome q patience told o old new
 ConcludesRow None patience told o old new = StaysSo told old new
 
+-- by whether the thread holds the locks of its call: this is answered, or nothing changes
 abbrev pub ConcludesHeld : Bool → ℕ → Option posix.Answer → Outing → OutsideParts → OutsideParts
     → Type 0
 ConcludesHeld true patience told o old new =
     ConcludesRow (slice_get old.rows o.row) patience told o old new
 ConcludesHeld false patience told o old new = StaysSo told old new
 
--- the answer is told, where there is one
+-- the answer is given, where there is one
 abbrev pub AnswersOutside : ℕ → Option posix.Answer → ℕ → Outing → OutsideParts → OutsideParts
     → Type 0
 AnswersOutside patience told i o old new =

@@ -5,7 +5,8 @@ use Rattle.lock_model.specs.CallTable.{Way}
 use Rattle.lock_model.specs.Held.{object_in}
 use Rattle.lock_model.specs.State as lock
 use Rattle.lock_model.specs.State.{Job, State, thread_of}
-use Rattle.lock_model.specs.State.Phase.{Working, WantsTable, WantsObject, Granted, ToOutside, Outside, Recorded, Blocked, Ended}
+use Rattle.lock_model.specs.State.Phase.{Working, WantsTable, WantsObject, Granted, ToOutside}
+use Rattle.lock_model.specs.State.Phase.{Outside, Recorded, Blocked, Ended}
 use Rattle.sequential_object.specs.Step.{asks}
 use Rattle.posix_terms.specs.Calls.{Call}
 use Rattle.lock_machine.specs.Conditions.{Conditions}

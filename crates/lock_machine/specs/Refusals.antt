@@ -1,6 +1,7 @@
 -- Believed: a contract of the headline stands on it.
 -- When the machine refuses an event.
-use Rattle.std.specs.Prelude.{◌≡◌, ◌||◌, if◌then◌else◌, ℕ, Bool, true, false, List, Option, Some, None, Result, Ok, Err, slice_get}
+use Rattle.std.specs.Prelude.{◌≡◌, ◌||◌, if◌then◌else◌, ℕ, Bool, true, false, List, Option, Some}
+use Rattle.std.specs.Prelude.{None, Result, Ok, Err, slice_get}
 use Rattle.posix_terms.specs.declared.outcome.Given.{Given}
 use Rattle.posix_terms.specs.declared.transcript.HistoryRow.{HistoryRow}
 use Rattle.posix_terms.specs.declared.step.Step.{Step}
@@ -19,6 +20,7 @@ use Rattle.lock_machine.specs.declared.thread.Phase.TheVariants as phase
 
 -- ## The phases at which there is an event
 
+-- the phase of thread i
 abbrev pub phase_at : Whole → ℕ → Phase
 phase_at w i = (thread_at w i).phase
 
@@ -90,12 +92,13 @@ OnMemory (Err refused.WrongPhase) P = Unit {0}
 OnMemory (Err refused.ClockFull) P = Unit {0}
 OnMemory (Err refused.Memory) P = P
 
--- an event that wants no memory is not refused for the lack of it
+-- an event that takes no memory is not refused for the lack of it
 abbrev pub WantsNone : {A : Type 0} → Result A LockRefused → Type 0
 WantsNone r = OnMemory r ⊥
 
 -- ## Outcomes
 
+-- what would come of this outcome for a thread in this phase; it can come only for one outside
 abbrev pub outlook_in : Phase → Thread → List HistoryRow → Given → Progress
 outlook_in (phase.Outside o) t rows g = progress_at (slice_get rows o.row) o g (can_count t)
 outlook_in p t rows g = progress.Stays
@@ -125,6 +128,6 @@ abbrev pub attempted : Bool → Attempt
 attempted true = attempt.Failed
 attempted false = attempt.Got
 
--- whether the lock that was wanted before is wanted behind the attempt
+-- whether the lock that was wanted before is wanted after the attempt
 abbrev pub still_wants : Phase → Phase → Bool
 still_wants before after = if wants_table before then wants_table after else wants_object after

@@ -22,6 +22,7 @@ AskLittle = (s : State) (c : Call) (carried : Carried) → Little (asks s c carr
 abbrev pub kind_asked : Call → Option OutKind
 kind_asked c = if may_ask c then Some (request_kind c) else None
 
+-- what is asked, if anything is, is of this kind
 abbrev pub IsOfKind : Option OutKind → Option Query → Type 0
 IsOfKind k (Some r) = Some r.kind ≡ k
 IsOfKind k None = Unit {0}

@@ -8,7 +8,7 @@ use Rattle.call_turns.specs.Space.{Space}
 use Rattle.lock_machine.specs.declared.thread.Phase.{Phase}
 use Rattle.lock_machine.specs.declared.thread.Phase.TheVariants as phase
 
--- so many bytes the reply brings that is told, at most
+-- how many bytes the reply that is returned brings, at most
 abbrev pub told_needed : Phase → ℕ
 told_needed (phase.WantsTable call carried) = read_count call
 told_needed (phase.WantsObject call carried clock object) = read_count call
@@ -17,7 +17,7 @@ told_needed (phase.Outside o) = bytes_asked o.errand
 told_needed (phase.Recorded o) = bytes_asked o.errand
 told_needed p = 0
 
--- and its copy in the row, where there is room for so many in what is told
+-- and its copy in the row, where there is room for so many in what is returned
 abbrev pub row_needed : Phase → ℕ → ℕ
 row_needed (phase.WantsTable call carried) told = told
 row_needed (phase.WantsObject call carried clock object) told = told

@@ -1,6 +1,8 @@
 -- Believed: a contract of the headline stands on it.
 -- How the data of a run stand for a state of the lock machine.
-use Rattle.std.specs.Prelude.{◌≡◌, ℕ, ◌<◌, ◌≤◌, ◌^◌, List, [], ◌∷◌, ◌++◌, length, map, slice_get, is_some, Option, Some, None, IfSome, Bool, true, false, ◌==◌, if◌then◌else◌}
+use Rattle.std.specs.Prelude.{◌≡◌, ℕ, ◌<◌, ◌≤◌, ◌^◌, List, [], ◌∷◌, ◌++◌, length, map, slice_get}
+use Rattle.std.specs.Prelude.{is_some, Option, Some, None, IfSome, Bool, true, false, ◌==◌}
+use Rattle.std.specs.Prelude.{if◌then◌else◌}
 use Rattle.descriptor_table.specs.Agreement.{query_of}
 use Rattle.call_turns.specs.Patience.{ended, outside_ending}
 use Rattle.sequential_object.specs.Locked.{keeps_table}
@@ -25,7 +27,8 @@ use Rattle.sequential_object.specs.Answers.{answer_in, numbered, outcome_in}
 use Rattle.lock_model.specs.Runs.{Arises}
 use Rattle.lock_model.specs.State as lock
 use Rattle.lock_model.specs.State.{Job, Row, State, live_clocks, thread_of}
-use Rattle.lock_model.specs.State.Phase.{Working, WantsTable, WantsObject, Granted, ToOutside, Outside, Recorded, Blocked, Ended}
+use Rattle.lock_model.specs.State.Phase.{Working, WantsTable, WantsObject, Granted, ToOutside}
+use Rattle.lock_model.specs.State.Phase.{Outside, Recorded, Blocked, Ended}
 use Rattle.lock_model.specs.Rows.{shown}
 use Rattle.lock_machine.specs.Conditions.{Conditions, setup_under, start_under}
 use Rattle.call_turns.specs.Errands.{door_taken, waits_outside}
@@ -74,6 +77,7 @@ pub record IsOut (terms : Conditions) (i : ℕ) (rows : List Row) (o : Outing) (
       ≡ ended terms.settings job.found.object job.carried (outside_ending o.errand (Some x))
   pub row : slice_get rows o.row ≡ Some (row_of job)
 
+-- this phase of thread i in a run's data stands for the phase that it has in the state
 abbrev pub PhaseShows : Conditions → ℕ → List Row → Thread → lock.Thread → Phase → Type 0
 PhaseShows terms i rows t u phase.Working = u.phase ≡ Working
 PhaseShows terms i rows t u (phase.WantsTable call carried) = u.phase ≡ WantsTable call carried
@@ -91,6 +95,7 @@ PhaseShows terms i rows t u (phase.Blocked carried) =
     (call : Call) × (u.phase ≡ Blocked call carried)
 PhaseShows terms i rows t u phase.Ended = u.phase ≡ Ended
 
+-- thread i in a run's data stands for the one of the state: clock, steps, outcomes and phase
 pub record ThreadShows (terms : Conditions) (i : ℕ) (rows : List Row) (t : Thread) (u : lock.Thread)
     : Type 0 where
   pub clock : u.clock ≡ t.clock
@@ -101,6 +106,7 @@ pub record ThreadShows (terms : Conditions) (i : ℕ) (rows : List Row) (t : Thr
 
 -- ## The whole
 
+-- a run's data stand for this state: settings, threads, locks, table and rows
 pub record Shows (terms : Conditions) (w : Whole) (s : State) : Type 0 where
   pub settings : terms.settings ≡ w.settings
   pub count : length s.threads ≡ length w.threads
@@ -122,6 +128,7 @@ ClocksShown = (terms : Conditions) (w : Whole) (s : State) → Shows terms w s
 abbrev pub IsAt : Whole → ℕ → Phase → Type 0
 IsAt w i p = (thread_at w i).phase ≡ p
 
+-- in this phase a thread is in a call that was granted with this row and object, if with one
 abbrev pub GrantedIn : Phase → ℕ → Option ℕ → Type 0
 GrantedIn (phase.Granted row object e) place other = (row ≡ place) × (object ≡ other)
 GrantedIn p place other = ⊥
@@ -130,6 +137,7 @@ GrantedIn p place other = ⊥
 abbrev pub IsGrantedAt : Whole → ℕ → ℕ → Option ℕ → Type 0
 IsGrantedAt w i row object = GrantedIn (thread_at w i).phase row object
 
+-- in this phase a thread is in a call that is blocked
 abbrev pub BlockedIn : Phase → Type 0
 BlockedIn (phase.Blocked carried) = Unit {0}
 BlockedIn p = ⊥
@@ -138,6 +146,7 @@ BlockedIn p = ⊥
 abbrev pub IsBlockedAt : Whole → ℕ → Type 0
 IsBlockedAt w i = BlockedIn (thread_at w i).phase
 
+-- in this phase a thread wants this object
 abbrev pub WantsIn : Phase → ℕ → Type 0
 WantsIn (phase.WantsObject call carried clock object) other = object ≡ other
 WantsIn p other = ⊥
@@ -148,17 +157,19 @@ WantsAt w i object = WantsIn (thread_at w i).phase object
 
 -- ## Events, whoever supplies the steps and the outcomes
 
+-- the event is made
 abbrev pub has_moved : Progress → Bool
 has_moved progress.Moves = true
 has_moved progress.Stays = false
 has_moved progress.Diverges = false
 
+-- the outcome does not answer what was asked
 abbrev pub has_diverged : Progress → Bool
 has_diverged progress.Diverges = true
 has_diverged progress.Moves = false
 has_diverged progress.Stays = false
 
--- the outcomes of a thread behind what came of this one
+-- the outcomes of a thread after what came of this one
 abbrev pub came_with : Progress → Given → List Given → List Given
 came_with progress.Moves g came = came ++ g ∷ []
 came_with p g came = came
@@ -168,24 +179,28 @@ abbrev pub dated_by : Option HistoryRow → Given → Given
 dated_by (Some q) g = dated q.turn g
 dated_by None g = g
 
+-- the row of the call with which a thread in this phase is outside
 abbrev pub row_outside : Phase → List HistoryRow → Option HistoryRow
 row_outside (phase.Outside o) rows = slice_get rows o.row
 row_outside p rows = None
 
+-- this outcome as it comes for thread i, with the clock of its call's turn where it is outside
 abbrev pub as_it_comes : Whole → ℕ → Given → Given
 as_it_comes w i g = dated_by (row_outside (thread_at w i).phase w.rows) g
 
--- the clock that a log of the version of these settings has of the next outcome of thread i
+-- the clock of the turn of this row, if there is one
 abbrev pub clock_in_row : Option HistoryRow → Option ℕ
 clock_in_row (Some q) = Some q.turn.clock
 clock_in_row None = None
 
+-- the clock that a log of the version of these settings has of the next outcome of thread i
 abbrev pub logged_clock : Whole → ℕ → Option ℕ
 logged_clock w i =
     if w.settings.version == 2 then clock_in_row (row_outside (thread_at w i).phase w.rows)
     else None
 
--- this outcome comes for thread i, just where it can, and it diverges just where the outcome does
+-- this outcome comes for thread i, exactly when it can, and it
+-- diverges exactly when the outcome does
 -- not answer
 pub record Advanced (made : Progress) (i : ℕ) (g : Given) (new : Whole) (terms : Conditions)
     (s : State) : Type 0 where
@@ -195,7 +210,7 @@ pub record Advanced (made : Progress) (i : ℕ) (g : Given) (new : Whole) (terms
   pub came : (thread_of (advance (setup_under terms) i s) i).came
       ≡ came_with made g (thread_of s i).came
 
--- it makes an event in which no outcome comes, just where it can
+-- it makes an event in which no outcome comes, exactly when it can
 pub record Quietly (moved : Bool) (i : ℕ) (new : Whole) (terms : Conditions) (s : State)
     : Type 0 where
   pub can : can_advance (setup_under terms) s i ≡ moved
@@ -229,7 +244,7 @@ abbrev pub MayAdvance : ℕ → Whole → Type 0
 MayAdvance i w = (terms : Conditions) (s : State) → StandsAt w terms s
     → can_advance (setup_under terms) s i ≡ true
 
--- the replies of a thread behind its answer, if it has one
+-- the replies of a thread after its answer, if it has one
 abbrev pub replied : Option posix.Answer → List Reply → List Reply
 replied (Some (answer.Reply r)) rs = rs ++ r ∷ []
 replied (Some answer.Again) rs = rs
@@ -250,7 +265,7 @@ RecordsGiven made i g old new =
     → slice_get (terms.supply.outcomes i) (length (thread_of s i).came) ≡ Some g
     → Advanced made i (as_it_comes old i g) new terms s
 
--- thread i makes its attempt, just where it can
+-- thread i makes its attempt, exactly when it can
 abbrev pub Attempts : Bool → ℕ → Whole → Whole → Type 0
 Attempts made i old new =
     (terms : Conditions) (s : State) → StandsAt old terms s

@@ -27,6 +27,7 @@ pub record Passes (terms : Conditions) (s : State) (new : Whole) : Type 0 where
   pub skipped : Skipped (setup_under terms) turn s
   pub shows : Shows terms new skipped.last
 
+-- whatever state the machine stands at, attempts that fail lead from it to one that it shows then
 abbrev pub SkipsFailures : Whole → Whole → Type 0
 SkipsFailures old new =
     (terms : Conditions) (s : State) → StandsAt old terms s → Passes terms s new
@@ -52,6 +53,7 @@ NeedNotFail w i =
 
 -- ## By the fields of a machine
 
+-- the phase of thread j
 abbrev pub phase_of : List Thread → ℕ → Phase
 phase_of threads j = let t : Thread = item_at threads j in t.phase
 
@@ -76,6 +78,7 @@ abbrev pub passed : Turn → ℕ → Phase → ThreadClock → ThreadClock
 passed turn j p c =
     if wants_lock p then record c { clock = max c.clock (first_from turn j) } else c
 
+-- the clocks once no thread that wants a lock comes before this turn; those of others stay
 pub record ArePassed (turn : Turn) (threads : List Thread)
     (old new : List ThreadClock) : Type 0 where
   pub count : length new ≡ length old

@@ -24,9 +24,11 @@ first_item = record {
   roomy = (le_refl 0, (le_refl 0, refl));
 }
 
+-- a thread before its first step, with its clock
 abbrev pub first_thread : Thread
 first_thread = record { phase = phase.Working; clock = 1; asked = []; came = 0 }
 
+-- a machine of so many threads before any event, with all locks free and no rows
 abbrev pub first_whole : Settings → ℕ → Whole
 first_whole settings threads =
     record {

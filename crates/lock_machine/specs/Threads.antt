@@ -9,12 +9,14 @@ use Rattle.lock_machine.specs.declared.thread.Phase.{Phase}
 use Rattle.lock_machine.specs.declared.thread.Phase.TheVariants as phase
 use Rattle.lock_machine.specs.declared.thread.Thread as declared
 
+-- a thread of a run: where it is, its clock, the steps that it asked, how many outcomes came
 pub record Thread : Type 0 where
   pub phase : Phase
   pub clock : ℕ
   pub asked : List Step
   pub came : ℕ
 
+-- a thread with this clock
 abbrev pub timed : declared.Thread → ℕ → Thread
 timed t clock = record { phase = t.phase; clock = clock; asked = t.asked; came = t.came }
 
@@ -24,14 +26,17 @@ joined [] clocks = []
 joined (t ∷ threads) [] = timed t 0 ∷ joined threads []
 joined (t ∷ threads) (c ∷ clocks) = timed t c.clock ∷ joined threads clocks
 
+-- a thread in this phase has ended
 abbrev pub is_ended : Phase → Bool
 is_ended phase.Ended = true
 is_ended p = false
 
+-- each of these is so
 abbrev pub all_true : List Bool → Bool
 all_true [] = true
 all_true (b ∷ bs) = b && all_true bs
 
+-- all threads have ended
 abbrev pub have_ended : List Thread → Bool
 have_ended threads = all_true (map (λ (t : Thread). is_ended t.phase) threads)
 

@@ -8,6 +8,7 @@ use Rattle.lock_machine.specs.declared.thread.Thread as declared
 use Rattle.lock_machine.specs.declared.thread.Phase.{Phase}
 use Rattle.lock_machine.specs.declared.thread.Phase.TheVariants as phase
 
+-- the clock of a thread, unless it has ended by its phase
 abbrev pub live_in : Phase → ℕ → Option ℕ
 live_in phase.Ended clock = None
 live_in p clock = Some clock
@@ -16,6 +17,7 @@ live_in p clock = Some clock
 abbrev pub live_clock_of : Thread → Option ℕ
 live_clock_of t = live_in t.phase t.clock
 
+-- of each thread the clock, unless it has ended
 abbrev pub clocks_of : List Thread → List (Option ℕ)
 clocks_of threads = map live_clock_of threads
 
@@ -29,8 +31,10 @@ no_item = record {
   roomy = (le_refl 0, (le_refl 0, refl));
 }
 
+-- what stands for a thread that is not there, with a clock: it has ended
 abbrev pub no_thread : Thread
 no_thread = timed no_item 0
 
+-- thread i, without its clock
 abbrev pub item_at : List declared.Thread → ℕ → declared.Thread
 item_at threads i = get_or threads i no_item

@@ -21,6 +21,7 @@ rows_due p = 0
 abbrev pub waiting : List Thread → ℕ
 waiting threads = sum_by (λ (t : Thread). rows_due t.phase) threads
 
+-- this step is a call
 abbrev pub is_call : Step → Bool
 is_call (step.Call call) = true
 is_call x = false

@@ -1,7 +1,8 @@
 -- Internal: no contract of the headline or of a command stands on it.
 -- What was decided of the call whose thread holds the table: nobody else changes the table until
 -- that is free.
-use Rattle.std.specs.Prelude.{◌≡◌, ◌≢◌, ℕ, ◌<◌, Bool, true, false, List, length, slice_get, slice_index_or, Option, Some, None}
+use Rattle.std.specs.Prelude.{◌≡◌, ◌≢◌, ℕ, ◌<◌, Bool, true, false, List, length, slice_get}
+use Rattle.std.specs.Prelude.{slice_index_or, Option, Some, None}
 use Rattle.std.specs.Option.{option_map}
 use Rattle.posix_terms.specs.Calls.{Call}
 use Rattle.posix_terms.specs.declared.transcript.HistoryRow.{HistoryRow}
@@ -57,6 +58,7 @@ HasDecided p rows h wanted =
 abbrev pub HasDecidedAt : ℕ → Phase → DetLock → List HistoryRow → Stored → Option Locking → Type 0
 HasDecidedAt k p lock rows h wanted = lock.holder ≡ Some k → HasDecided p rows h wanted
 
+-- this was decided of the call of whichever thread holds the table
 abbrev pub AllHaveDecided : List Thread → DetLock → List HistoryRow → Stored → Option Locking
     → Type 0
 AllHaveDecided threads lock rows h wanted = (k : ℕ) (d : Thread) → k < length threads →

@@ -18,8 +18,10 @@ pub record Whole : Type 0 where
   pub table : Stored
   pub rows : List HistoryRow
 
+-- thread k of a machine
 abbrev pub thread_at : Whole → ℕ → Thread
 thread_at w k = get_or w.threads k no_thread
 
+-- the settings of a machine
 abbrev pub settings_in : Whole → Settings
 settings_in w = w.settings

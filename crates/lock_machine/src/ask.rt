@@ -1,4 +1,5 @@
-ghost use Rattle.std.specs.Prelude.{◌≡◌, ◌+◌, ◌<◌, ◌≤◌, ◌^◌, ℕ, List, true, false, IfOk, OnErr, length};
+ghost use Rattle.std.specs.Prelude.{◌≡◌, ◌+◌, ◌<◌, ◌≤◌, ◌^◌, ℕ, List, true, false, IfOk, OnErr};
+ghost use Rattle.std.specs.Prelude.{length};
 ghost use Rattle.logical_clocks.specs.ThreadClocks.{clock_at};
 ghost use Rattle.lock_model.specs.Held.{last_call};
 ghost use Rattle.lock_machine.specs.Asking.{Asks, Ends, GoesAgain, HasTime, Works, after_want};
@@ -15,16 +16,18 @@ use posix_terms::{Call, Carried, Limits, PackedRow, Step};
 use std::alloc::AllocError;
 
 impl Thread {
-    // Thread i, which works, asks this step; and tells whether its clock has room for that.
+    // Thread i, which works, asks this step; and returns whether its clock has room for that.
     pub fn ask(&mut self, clocks: &mut Clocks, i: usize, step: Step) -> Result<bool, AllocError>
         requires inside { i < length clocks.old }
         requires live { is_live self.old.phase ≡ true }
-        ensures event { IfOk result (λ moved. Asks moved step (timed self.old (clock_at clocks.old i)) (timed self.new (clock_at clocks.new i))) }
+        ensures event { IfOk result (λ moved. Asks moved step
+            (timed self.old (clock_at clocks.old i)) (timed self.new (clock_at clocks.new i))) }
         ensures err { OnErr result ((self.new ≡ self.old) × (clocks.new ≡ clocks.old)) }
         ensures time { OnErr result (HasTime step (timed self.old (clock_at clocks.old i))) }
         ensures others { KeepsOthers i self.old clocks.old self.new clocks.new }
         ensures due { is_call step ≡ false → rows_due self.new.phase ≤ rows_due self.old.phase }
-        ensures brings { (rows : List SeenRow) → BringsNoCall self.old.phase rows self.new.phase rows }
+        ensures brings { (rows : List SeenRow)
+            → BringsNoCall self.old.phase rows self.new.phase rows }
     {
         match step {
             Step::Work(amount) => self.work(clocks, i, amount),
@@ -36,7 +39,8 @@ impl Thread {
     fn work(&mut self, clocks: &mut Clocks, i: usize, amount: u64) -> Result<bool, AllocError>
         requires inside { i < length clocks.old }
         requires live { is_live self.old.phase ≡ true }
-        ensures event { IfOk result (λ moved. Works moved amount (timed self.old (clock_at clocks.old i)) (timed self.new (clock_at clocks.new i))) }
+        ensures event { IfOk result (λ moved. Works moved amount
+            (timed self.old (clock_at clocks.old i)) (timed self.new (clock_at clocks.new i))) }
         ensures err { OnErr result ((self.new ≡ self.old) × (clocks.new ≡ clocks.old)) }
         ensures time { OnErr result (clock_at clocks.old i + amount ≤ 2 ^ 62) }
         ensures others { KeepsOthers i self.old clocks.old self.new clocks.new }
@@ -51,10 +55,12 @@ impl Thread {
     }
 
     fn want(&mut self, call: Call) -> Result<bool, AllocError>
-        ensures event { IfOk result (λ moved. (moved ≡ true) × ((clock : ℕ) → timed self.new clock ≡ after_want call (timed self.old clock))) }
+        ensures event { IfOk result (λ moved. (moved ≡ true)
+            × ((clock : ℕ) → timed self.new clock ≡ after_want call (timed self.old clock))) }
         ensures err { OnErr result (self.new ≡ self.old) }
         ensures live { is_live self.old.phase ≡ true → is_live self.new.phase ≡ true }
-        ensures brings { (rows : List SeenRow) → BringsNoCall self.old.phase rows self.new.phase rows }
+        ensures brings { (rows : List SeenRow)
+            → BringsNoCall self.old.phase rows self.new.phase rows }
     {
         let room = self.room.for_call(&call)?;
         self.asked.push(Step::Call(call.try_clone()?))?;
@@ -66,14 +72,16 @@ impl Thread {
         Ok(true)
     }
 
-    // Thread i, which works, ends; and tells whether it had not asked its end before.
+    // Thread i, which works, ends; and returns whether it had not asked its end before.
     pub fn end(&mut self, clocks: &mut Clocks, i: usize) -> bool
         requires inside { i < length clocks.old }
         requires live { is_live self.old.phase ≡ true }
-        ensures event { Ends result (timed self.old (clock_at clocks.old i)) (timed self.new (clock_at clocks.new i)) }
+        ensures event { Ends result (timed self.old (clock_at clocks.old i))
+            (timed self.new (clock_at clocks.new i)) }
         ensures others { KeepsOthers i self.old clocks.old self.new clocks.new }
         ensures due { rows_due self.new.phase ≤ rows_due self.old.phase }
-        ensures brings { (rows : List SeenRow) → BringsNoCall self.old.phase rows self.new.phase rows }
+        ensures brings { (rows : List SeenRow)
+            → BringsNoCall self.old.phase rows self.new.phase rows }
     {
         if self.asked.has_end() {
             return false;
@@ -86,10 +94,12 @@ impl Thread {
 
     // Makes a blocked call again, which is the one that was asked last.
     pub fn again(&mut self) -> Result<bool, AllocError>
-        ensures event { IfOk result (λ moved. (clock : ℕ) → GoesAgain moved (timed self.old clock) (timed self.new clock)) }
+        ensures event { IfOk result (λ moved. (clock : ℕ)
+            → GoesAgain moved (timed self.old clock) (timed self.new clock)) }
         ensures err { OnErr result (self.new ≡ self.old) }
         ensures live { is_live self.old.phase ≡ is_live self.new.phase }
-        ensures brings { (rows : List SeenRow) → BringsNoCall self.old.phase rows self.new.phase rows }
+        ensures brings { (rows : List SeenRow)
+            → BringsNoCall self.old.phase rows self.new.phase rows }
     {
         let Phase::Blocked { carried } = self.phase else {
             return Ok(false);

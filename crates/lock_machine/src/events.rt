@@ -1,12 +1,16 @@
-ghost use Rattle.std.specs.Prelude.{◌≡◌, ◌++◌, ◌∷◌, [], ◌*◌, ◌<◌, ◌≤◌, ◌^◌, ◌&&◌, ℕ, Some, true, false, length};
+ghost use Rattle.std.specs.Prelude.{◌≡◌, ◌++◌, ◌∷◌, [], ◌*◌, ◌<◌, ◌≤◌, ◌^◌, ◌&&◌, ℕ, Some, true};
+ghost use Rattle.std.specs.Prelude.{false, length};
 ghost use Rattle.det_mutex.specs.Attempt.{takes};
 ghost use Rattle.lock_model.specs.Machine.{is_number};
 ghost use Rattle.logical_clocks.specs.ThreadClocks.{clock_at};
 ghost use Rattle.posix_terms.specs.declared.limits.TheConstants.Limits as limit;
 ghost use Rattle.lock_machine.specs.Births.{BearsInTime, BornWithin, time_of};
-ghost use Rattle.lock_machine.specs.Events.{Answers, Grants, granted_row, wants_to_keep, GrantsObject, PlansTo, Reaches, Tries, object_taken, parts};
+ghost use Rattle.lock_machine.specs.Events.{Answers, Grants, granted_row, wants_to_keep};
+ghost use Rattle.lock_machine.specs.Events.{GrantsObject, PlansTo, Reaches, Tries, object_taken};
+ghost use Rattle.lock_machine.specs.Events.{parts};
 ghost use Rattle.lock_machine.specs.Lives.{is_live};
-ghost use Rattle.lock_machine.specs.Wanted.{BringsNoCall, KeepsCalls, KeepsWanted, HasDecided, HasDecidedAt};
+ghost use Rattle.lock_machine.specs.Wanted.{BringsNoCall, KeepsCalls, KeepsWanted, HasDecided};
+ghost use Rattle.lock_machine.specs.Wanted.{HasDecidedAt};
 ghost use Rattle.lock_machine.specs.Held.{phase_behind, phase_started, told_as};
 ghost use Rattle.lock_machine.specs.Threads.{KeepsOthers, timed};
 ghost use Rattle.lock_machine.specs.Waiting.{HasRoom, KeepsRoom, rows_due};
@@ -16,14 +20,15 @@ ghost use Rattle.call_turns.specs.Store.{IsDecided, Stored, number_locked};
 
 use crate::machine::Shared;
 use crate::thread::{Outing, Phase, Thread};
+use call_turns::{AtTable, Locking, Room, TurnEnd, TurnStart, keeps_table};
 use det_mutex::DetLock;
 use logical_clocks::Clocks;
-use call_turns::{AtTable, Locking, Room, TurnEnd, TurnStart, keeps_table};
 use posix_terms::{Answer, Call, Carried, PackedRow, Turn};
 use std::mem;
 
-// `answer`: the call of thread i, which has this row, has its reply, or is to be made again where it was blocked; this is
-// told. The lock that the call holds is free.
+// `answer`: the call of thread i, which has this row, has its reply,
+// or is to be made again where it was blocked; this is
+// returned. The lock that the call holds is free.
 #[inline(always)]
 pub fn answer(
     i: usize,
@@ -35,10 +40,14 @@ pub fn answer(
 ) -> Option<Answer>
     requires inside { i < length clocks.old }
     requires live { is_live thread.old.phase ≡ true }
-    ensures event { (table : Stored) → Answers result i row (parts (timed thread.old (clock_at clocks.old i)) lock.old table rows.old.items) (parts (timed thread.new (clock_at clocks.new i)) lock.new table rows.new.items) }
+    ensures event { (table : Stored)
+        → Answers result i row (parts (timed thread.old (clock_at clocks.old i)) lock.old table
+        rows.old.items) (parts (timed thread.new (clock_at clocks.new i)) lock.new table
+        rows.new.items) }
     ensures others { KeepsOthers i thread.old clocks.old thread.new clocks.new }
     ensures rows { length rows.new.items ≡ length rows.old.items }
-    ensures room { KeepsRoom (rows_due thread.old.phase) rows.old (rows_due thread.new.phase) rows.new }
+    ensures room { KeepsRoom (rows_due thread.old.phase) rows.old (rows_due thread.new.phase)
+        rows.new }
     ensures brings { BringsNoCall thread.old.phase rows.old.items thread.new.phase rows.new.items }
     ensures calls { KeepsCalls rows.old.items rows.new.items }
     ensures holders { (k : ℕ) → lock.new.holder ≡ Some k → lock.old.holder ≡ Some k }
@@ -87,7 +96,7 @@ pub fn phase_behind(end: &TurnEnd) -> Phase
     }
 }
 
-// A turn that ended so, as the answer that is told.
+// A turn that ended so, as the answer that is returned.
 pub fn told_as(end: TurnEnd) -> Answer
     ensures { result ≡ told_as end }
 {
@@ -120,13 +129,21 @@ pub fn try_table(
     requires few { length clocks.old ≤ limit.THREADS }
     requires born { BornWithin (2 * time_of clocks.old) shared.old.store }
     requires row { HasRoom (rows_due thread.old.phase) shared.old.rows }
-    requires decided { HasDecidedAt i thread.old.phase shared.old.lock shared.old.rows.items shared.old.store shared.old.wanted }
-    ensures event { Tries patience result i (parts (timed thread.old (clock_at clocks.old i)) shared.old.lock shared.old.store shared.old.rows.items) (parts (timed thread.new (clock_at clocks.new i)) shared.new.lock shared.new.store shared.new.rows.items) }
+    requires decided { HasDecidedAt i thread.old.phase shared.old.lock shared.old.rows.items
+        shared.old.store shared.old.wanted }
+    ensures event { Tries patience result i
+        (parts (timed thread.old (clock_at clocks.old i)) shared.old.lock shared.old.store
+        shared.old.rows.items) (parts (timed thread.new (clock_at clocks.new i)) shared.new.lock
+        shared.new.store shared.new.rows.items) }
     ensures others { KeepsOthers i thread.old clocks.old thread.new clocks.new }
-    ensures births { BearsInTime (clock_at clocks.old i) shared.old.store (clock_at clocks.new i) shared.new.store }
-    ensures room { KeepsRoom (rows_due thread.old.phase) shared.old.rows (rows_due thread.new.phase) shared.new.rows }
-    ensures decided { HasDecidedAt i thread.new.phase shared.new.lock shared.new.rows.items shared.new.store shared.new.wanted }
-    ensures wanted { KeepsWanted i shared.old.lock shared.old.rows.items shared.old.store shared.old.wanted shared.new.lock shared.new.rows.items shared.new.store shared.new.wanted }
+    ensures births { BearsInTime (clock_at clocks.old i) shared.old.store (clock_at clocks.new i)
+        shared.new.store }
+    ensures room { KeepsRoom (rows_due thread.old.phase) shared.old.rows (rows_due thread.new.phase)
+        shared.new.rows }
+    ensures decided { HasDecidedAt i thread.new.phase shared.new.lock shared.new.rows.items
+        shared.new.store shared.new.wanted }
+    ensures wanted { KeepsWanted i shared.old.lock shared.old.rows.items shared.old.store
+        shared.old.wanted shared.new.lock shared.new.rows.items shared.new.store shared.new.wanted }
 {
     match mem::replace(&mut thread.phase, Phase::Working) {
         Phase::WantsTable { call, carried } => {
@@ -164,11 +181,15 @@ fn plan(
     requires row { HasRoom 1 shared.old.rows }
     requires room { HasSpaceFor call thread.old.room }
     requires holds { shared.old.lock.holder ≡ Some turn.thread }
-    ensures event { (clock : ℕ) → PlansTo patience (number_locked shared.old.store call carried) turn call carried (parts (timed thread.old clock) shared.old.lock shared.old.store shared.old.rows.items) (parts (timed thread.new clock) shared.new.lock shared.new.store shared.new.rows.items) }
+    ensures event { (clock : ℕ) → PlansTo patience (number_locked shared.old.store call carried)
+        turn call carried (parts (timed thread.old clock) shared.old.lock shared.old.store
+        shared.old.rows.items) (parts (timed thread.new clock) shared.new.lock shared.new.store
+        shared.new.rows.items) }
     ensures live { is_live thread.old.phase ≡ true → is_live thread.new.phase ≡ true }
     ensures births { BearsInTime 0 shared.old.store 1 shared.new.store }
     ensures room { KeepsRoom 1 shared.old.rows (rows_due thread.new.phase) shared.new.rows }
-    ensures decided { HasDecided thread.new.phase shared.new.rows.items shared.new.store shared.new.wanted }
+    ensures decided { HasDecided thread.new.phase shared.new.rows.items shared.new.store
+        shared.new.wanted }
     ensures lock { shared.new.lock ≡ shared.old.lock }
 {
     match shared.store.settle_or_lock(&call, carried) {
@@ -207,13 +228,21 @@ pub fn try_object(
     requires few { length clocks.old ≤ limit.THREADS }
     requires born { BornWithin (2 * time_of clocks.old) shared.old.store }
     requires row { HasRoom (rows_due thread.old.phase) shared.old.rows }
-    requires decided { HasDecidedAt i thread.old.phase shared.old.lock shared.old.rows.items shared.old.store shared.old.wanted }
-    ensures event { Reaches patience result i lock.old lock.new (parts (timed thread.old (clock_at clocks.old i)) shared.old.lock shared.old.store shared.old.rows.items) (parts (timed thread.new (clock_at clocks.new i)) shared.new.lock shared.new.store shared.new.rows.items) }
+    requires decided { HasDecidedAt i thread.old.phase shared.old.lock shared.old.rows.items
+        shared.old.store shared.old.wanted }
+    ensures event { Reaches patience result i lock.old lock.new
+        (parts (timed thread.old (clock_at clocks.old i)) shared.old.lock shared.old.store
+        shared.old.rows.items) (parts (timed thread.new (clock_at clocks.new i)) shared.new.lock
+        shared.new.store shared.new.rows.items) }
     ensures others { KeepsOthers i thread.old clocks.old thread.new clocks.new }
-    ensures births { BearsInTime (clock_at clocks.old i) shared.old.store (clock_at clocks.new i) shared.new.store }
-    ensures room { KeepsRoom (rows_due thread.old.phase) shared.old.rows (rows_due thread.new.phase) shared.new.rows }
-    ensures decided { HasDecidedAt i thread.new.phase shared.new.lock shared.new.rows.items shared.new.store shared.new.wanted }
-    ensures wanted { KeepsWanted i shared.old.lock shared.old.rows.items shared.old.store shared.old.wanted shared.new.lock shared.new.rows.items shared.new.store shared.new.wanted }
+    ensures births { BearsInTime (clock_at clocks.old i) shared.old.store (clock_at clocks.new i)
+        shared.new.store }
+    ensures room { KeepsRoom (rows_due thread.old.phase) shared.old.rows (rows_due thread.new.phase)
+        shared.new.rows }
+    ensures decided { HasDecidedAt i thread.new.phase shared.new.lock shared.new.rows.items
+        shared.new.store shared.new.wanted }
+    ensures wanted { KeepsWanted i shared.old.lock shared.old.rows.items shared.old.store
+        shared.old.wanted shared.new.lock shared.new.rows.items shared.new.store shared.new.wanted }
 {
     let Phase::WantsObject { .. } = thread.phase else {
         return false;
@@ -251,12 +280,16 @@ fn grant_object(patience: u32, i: usize, thread: &mut Thread, shared: &mut Share
     requires thread { i < limit.THREADS }
     requires born { BornWithin (2 ^ 126) shared.old.store }
     requires row { HasRoom 1 shared.old.rows }
-    requires decided { HasDecided thread.old.phase shared.old.rows.items shared.old.store shared.old.wanted }
-    ensures event { (clock : ℕ) → GrantsObject patience thread.old.phase i (parts (timed thread.old clock) shared.old.lock shared.old.store shared.old.rows.items) (parts (timed thread.new clock) shared.new.lock shared.new.store shared.new.rows.items) }
+    requires decided { HasDecided thread.old.phase shared.old.rows.items shared.old.store
+        shared.old.wanted }
+    ensures event { (clock : ℕ) → GrantsObject patience thread.old.phase i
+        (parts (timed thread.old clock) shared.old.lock shared.old.store shared.old.rows.items)
+        (parts (timed thread.new clock) shared.new.lock shared.new.store shared.new.rows.items) }
     ensures live { is_live thread.old.phase ≡ true → is_live thread.new.phase ≡ true }
     ensures births { BearsInTime 0 shared.old.store 1 shared.new.store }
     ensures room { KeepsRoom 1 shared.old.rows (rows_due thread.new.phase) shared.new.rows }
-    ensures decided { HasDecided thread.new.phase shared.new.rows.items shared.new.store shared.new.wanted }
+    ensures decided { HasDecided thread.new.phase shared.new.rows.items shared.new.store
+        shared.new.wanted }
     ensures lock { shared.new.lock ≡ shared.old.lock }
 {
     match mem::replace(&mut thread.phase, Phase::Working) {
@@ -308,11 +341,14 @@ fn grant(
     requires room { HasSpaceFor call thread.old.room }
     requires decided { IsDecided shared.old.store call carried.moved locking }
     requires wanted { shared.old.wanted ≡ Some locking }
-    ensures event { (clock : ℕ) → Grants patience turn call carried (Some object) (parts (timed thread.old clock) shared.old.lock shared.old.store shared.old.rows.items) (parts (timed thread.new clock) shared.new.lock shared.new.store shared.new.rows.items) }
+    ensures event { (clock : ℕ) → Grants patience turn call carried (Some object)
+        (parts (timed thread.old clock) shared.old.lock shared.old.store shared.old.rows.items)
+        (parts (timed thread.new clock) shared.new.lock shared.new.store shared.new.rows.items) }
     ensures live { is_live thread.old.phase ≡ true → is_live thread.new.phase ≡ true }
     ensures births { BearsInTime 0 shared.old.store 1 shared.new.store }
     ensures room { KeepsRoom 1 shared.old.rows (rows_due thread.new.phase) shared.new.rows }
-    ensures decided { HasDecided thread.new.phase shared.new.rows.items shared.new.store shared.new.wanted }
+    ensures decided { HasDecided thread.new.phase shared.new.rows.items shared.new.store
+        shared.new.wanted }
     ensures lock { shared.new.lock ≡ shared.old.lock }
 {
     let start = thread

@@ -17,8 +17,10 @@ pub fn requests_asked()
     decided_so();
 }
 
-/// What a machine shows of a state of the lock machine. At its start it shows the start, whatever will be asked and come (`start`). The clocks by
-/// which it tells whose turn it is are those of the state (`clocks`), and each thread is in the phase that it has there, by name, with the call
+/// What a machine shows of a state of the lock machine. At its start it shows the
+/// start, whatever will be asked and come (`start`). The clocks by
+/// which it finds whose turn it is are those of the state (`clocks`), and each
+/// thread is in the phase that it has there, by name, with the call
 /// and the object (`phases`). It does nothing: the contract is the law.
 pub fn machines_show()
     ensures start { ShowsAtStart }

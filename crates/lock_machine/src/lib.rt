@@ -3,12 +3,13 @@
 //! of the definition in `lock_model`.
 //!
 //! A [`LockMachine`] is made for 1 to 16 threads, and is handed their steps and the outcomes from
-//! outside. `phase` tells where a thread is between its events: `ask`, `end`, `attempt`,
+//! outside. `phase` returns where a thread is between its events: `ask`, `end`, `attempt`,
 //! `begin_outside`, `record`, `answer` and `again`. An event that is not the thread's own now, or
 //! an attempt without the turn, is [`LockRefused`], and so is one for which the clock has no room.
-//! `ask` and `again` may want memory, and then nothing changes; an attempt, an answer or an end
-//! wants none. What names a thread asks that there is one of this number. `rows` is the history so
-//! far, and `finish` leaves it with the steps that were asked.
+//! `ask` and `again` take memory; without it they fail and nothing changes. An attempt, an answer
+//! or an end takes none. A function that is given the number of a thread requires that there is
+//! such a thread. `rows` is the history so far, and `finish` leaves it with the steps that were
+//! asked.
 //!
 //! ```rust
 //! use lock_machine::{Attempt, LockMachine};
@@ -18,7 +19,7 @@
 //! let settings = Settings { patience: 1000, door_cost: 100, version: 1 };
 //! let mut machine = LockMachine::new(alloc, 2, settings)?;
 //! assert!(rt; machine.ask(0, Step::Call(Call::Pipe)).is_ok());
-//! // Thread 1 would have the turn behind the first attempt of thread 0, if it had not ended.
+//! // Thread 1 would have the turn after the first attempt of thread 0, if it had not ended.
 //! assert!(rt; machine.end(1).is_ok());
 //! assert!(rt; matches!(machine.try_table(0), Ok(Attempt::Got)));
 //! assert!(rt; matches!(machine.try_node(0), Ok(Attempt::Got)));

@@ -12,9 +12,9 @@ ghost use Rattle.lock_machine.specs.Whole.{settings_in, thread_at};
 
 use crate::asked::Asked;
 use crate::thread::{Phase, Thread};
+use call_turns::{Locking, Store};
 use det_mutex::DetLock;
 use logical_clocks::Clocks;
-use call_turns::{Locking, Store};
 use posix_terms::{PackedRow, Settings, Step};
 use std::marker::Model;
 
@@ -24,12 +24,15 @@ pub struct Shared {
     pub lock: DetLock,
     pub store: Store,
     pub rows: Vec<PackedRow>,
-    // what was decided of the last call that was to lock an object: it holds as long as that call's thread keeps the table
+    // what was decided of the last call that was to lock an object: it
+    // holds as long as that call's thread keeps the table
     pub wanted: Option<Locking>,
 }
 
-/// Threads that share one table of descriptors, by locks that they take at their turns: the lock machine of `lock_model`, made run. It
-/// knows no actor: it is handed each step and each outcome. Contracts see the threads with their clocks, the locks, the table and the rows.
+/// Threads that share one table of descriptors, by locks that they take at
+/// their turns: the lock machine of `lock_model`, made run. It
+/// knows no actor: it is handed each step and each outcome. Contracts see the
+/// threads with their clocks, the locks, the table and the rows.
 #[derive(Drop)]
 pub struct LockMachine {
     pub(crate) settings: Settings,
@@ -39,7 +42,7 @@ pub struct LockMachine {
     // a number that is used again keeps its lock
     pub(crate) objects: Vec<DetLock>,
 
-    // a thread is live in its clock just until its phase is that it has ended
+    // a thread is live in its clock exactly until its phase is that it has ended
     ghost agree: { Agree threads.items clocks },
     ghost few: { length threads.items ≤ limit.THREADS },
     // each grant and each answer moves a clock, and makes two at most
@@ -47,7 +50,8 @@ pub struct LockMachine {
     // a call that waits for a lock finds room for its row
     ghost room: { HasRoom (waiting threads.items) shared.rows },
     // what was decided of a call holds until it is granted, or answered where it keeps the table
-    ghost wanted: { AllHaveDecided threads.items shared.lock shared.rows.items shared.store shared.wanted },
+    ghost wanted: { AllHaveDecided threads.items shared.lock shared.rows.items shared.store
+        shared.wanted },
 }
 
 impl Model for LockMachine {
@@ -60,7 +64,14 @@ impl Model for LockMachine {
 
     ghost coded = { Prim.hlevel (codes, stored_code) };
 
-    ghost view = { λ m. record { settings = m.settings; threads = joined m.threads.items m.clocks; lock = m.shared.lock; objects = m.objects.items; table = m.shared.store; rows = m.shared.rows.items } };
+    ghost view = { λ m. record {
+      settings = m.settings;
+      threads = joined m.threads.items m.clocks;
+      lock = m.shared.lock;
+      objects = m.objects.items;
+      table = m.shared.store;
+      rows = m.shared.rows.items;
+    } };
 }
 
 /// What a machine leaves that is over: the rows of its history, and the steps that each thread asked.

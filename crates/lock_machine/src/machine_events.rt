@@ -1,6 +1,8 @@
 ghost use Rattle.std.specs.Prelude.{◌≡◌, ◌<◌, true, IfOk, OnErr, is_some, length};
 ghost use Rattle.logical_clocks.specs.TurnOrder.{has_turn};
-ghost use Rattle.lock_machine.specs.Shows.{AdvancesQuietly, AsksFor, Attempts, IsAt, IsBlockedAt, IsGrantedAt, MayAdvance, MayAsk, RecordsGiven, Tells, WantsAt, has_moved};
+ghost use Rattle.lock_machine.specs.Shows.{AdvancesQuietly, AsksFor, Attempts, IsAt, IsBlockedAt};
+ghost use Rattle.lock_machine.specs.Shows.{IsGrantedAt, MayAdvance, MayAsk, RecordsGiven, Tells};
+ghost use Rattle.lock_machine.specs.Shows.{WantsAt, has_moved};
 ghost use Rattle.lock_machine.specs.Refusals.{Rests, outlook, wants_table};
 ghost use Rattle.lock_machine.specs.Views.{clocks_of};
 ghost use Rattle.lock_machine.specs.Whole.{settings_in, thread_at};
@@ -13,8 +15,8 @@ use crate::laws::requests_asked;
 use crate::machine::LockMachine;
 use crate::outside::{Progress, answer_outside, begin_outside, record};
 use crate::thread::Outing;
-use lock_model::arising_states;
 use call_turns::locks_and_doors;
+use lock_model::arising_states;
 use posix_terms::{Answer, Given, Step};
 use sequential_object::calls_outside;
 use std::alloc::AllocError;
@@ -22,7 +24,7 @@ use std::alloc::AllocError;
 // Where a row, the lock of an object or an outcome is not there, an event answers that it was not made. No run comes
 // to that: the contracts say of each state that arises whether the event can be made, and then it is.
 impl LockMachine {
-    // Thread i, which works, asks this step; and tells whether its clock has room for that.
+    // Thread i, which works, asks this step; and returns whether its clock has room for that.
     pub(crate) fn ask_working(&mut self, i: usize, step: Step) -> Result<bool, AllocError>
         requires inside { i < length self.old.threads }
         requires working { IsAt self.old i phase.Working }
@@ -38,7 +40,7 @@ impl LockMachine {
         self.threads[i].ask(&mut self.clocks, i, step)
     }
 
-    // Thread i, which works, ends; and tells whether it could.
+    // Thread i, which works, ends; and returns whether it could.
     pub(crate) fn end_working(&mut self, i: usize) -> bool
         requires inside { i < length self.old.threads }
         requires working { IsAt self.old i phase.Working }
@@ -51,7 +53,7 @@ impl LockMachine {
         self.threads[i].end(&mut self.clocks, i)
     }
 
-    // Thread i, which was granted a call that it goes outside with, does so; and tells whether it could.
+    // Thread i, which was granted a call that it goes outside with, does so; and returns whether it could.
     pub(crate) fn go_outside(&mut self, i: usize, outing: Outing) -> bool
         requires inside { i < length self.old.threads }
         requires granted { IsAt self.old i (phase.ToOutside outing) }
@@ -69,7 +71,7 @@ impl LockMachine {
         )
     }
 
-    // Thread i, which is blocked, makes its call again; and tells whether it could.
+    // Thread i, which is blocked, makes its call again; and returns whether it could.
     pub(crate) fn go_again(&mut self, i: usize) -> Result<bool, AllocError>
         requires inside { i < length self.old.threads }
         requires blocked { IsBlockedAt self.old i }
@@ -100,7 +102,7 @@ impl LockMachine {
         record(outing, given, &mut self.threads[i], &mut self.shared.rows)
     }
 
-    // The call of thread i, whose outcome came, has its answer; this is told, where it could be given.
+    // The call of thread i, whose outcome came, has its answer; this is returned, where it could be given.
     pub(crate) fn answer_recorded(&mut self, i: usize, outing: Outing) -> Option<Answer>
         requires inside { i < length self.old.threads }
         requires recorded { IsAt self.old i (phase.Recorded outing) }
@@ -127,8 +129,8 @@ impl LockMachine {
         )
     }
 
-    // The call of thread i, which was granted with this object and asks nothing outside, has its answer; this is told,
-    // where it could be given.
+    // The call of thread i, which was granted with this object and asks nothing outside, has its answer; this is
+    // returned, where it could be given.
     pub(crate) fn answer_granted(
         &mut self,
         i: usize,
@@ -168,7 +170,7 @@ impl LockMachine {
         }
     }
 
-    // Thread i, which wants the table and has the turn, attempts its lock, and tells whether it could.
+    // Thread i, which wants the table and has the turn, attempts its lock, and returns whether it could.
     pub(crate) fn attempt_table(&mut self, i: usize) -> bool
         requires inside { i < length self.old.threads }
         requires turn { has_turn (clocks_of self.old.threads) i ≡ true }
@@ -189,7 +191,7 @@ impl LockMachine {
         )
     }
 
-    // Thread i, which wants this object and has the turn, attempts its lock, and tells whether it could.
+    // Thread i, which wants this object and has the turn, attempts its lock, and returns whether it could.
     pub(crate) fn attempt_object(&mut self, i: usize, object: usize) -> bool
         requires inside { i < length self.old.threads }
         requires turn { has_turn (clocks_of self.old.threads) i ≡ true }

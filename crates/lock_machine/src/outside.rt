@@ -6,7 +6,8 @@ ghost use Rattle.logical_clocks.specs.ThreadClocks.{clock_at};
 ghost use Rattle.posix_terms.specs.declared.limits.TheConstants.Limits as limit;
 ghost use Rattle.lock_machine.specs.Births.{BearsInTime, BornWithin, time_of};
 ghost use Rattle.lock_machine.specs.Lives.{is_live};
-ghost use Rattle.lock_machine.specs.Wanted.{IsWanted, BringsNoCall, KeepsCalls, LeavesWanted, HasDecidedAt};
+ghost use Rattle.lock_machine.specs.Wanted.{IsWanted, BringsNoCall, KeepsCalls, LeavesWanted};
+ghost use Rattle.lock_machine.specs.Wanted.{HasDecidedAt};
 ghost use Rattle.lock_machine.specs.Outings.{AnswersOutside, Begins, EndsTurn, Records};
 ghost use Rattle.lock_machine.specs.Outings.{answer_cost, answers_errand, outside_parts};
 ghost use Rattle.lock_machine.specs.Outings.{progress_at, recorded_parts, table_freed};
@@ -19,10 +20,10 @@ ghost use Rattle.lock_machine.specs.Waiting.{KeepsRoom, rows_due};
 use crate::events::{answer_copied, holds, phase_behind, told_as};
 use crate::machine::Shared;
 use crate::thread::{Outing, Phase, Thread};
+use call_turns::{Locking, Room, Store, TurnEnd};
 use descriptor_table::Errand;
 use det_mutex::DetLock;
 use logical_clocks::Clocks;
-use call_turns::{Locking, Room, Store, TurnEnd};
 use posix_terms::{Answer, Call, Given, Limits, Outcome, PackedRow, Turn};
 
 /// How far an event comes that needs no turn.
@@ -46,10 +47,12 @@ pub fn begin_outside(
 ) -> bool
     requires inside { i < length clocks.old }
     requires granted { thread.old.phase ≡ phase.ToOutside outing }
-    ensures event { Begins door_cost outing result (timed thread.old (clock_at clocks.old i)) (timed thread.new (clock_at clocks.new i)) }
+    ensures event { Begins door_cost outing result (timed thread.old (clock_at clocks.old i))
+        (timed thread.new (clock_at clocks.new i)) }
     ensures others { KeepsOthers i thread.old clocks.old thread.new clocks.new }
     ensures due { rows_due thread.new.phase ≤ rows_due thread.old.phase }
-    ensures brings { (rows : List SeenRow) → BringsNoCall thread.old.phase rows thread.new.phase rows }
+    ensures brings { (rows : List SeenRow)
+        → BringsNoCall thread.old.phase rows thread.new.phase rows }
 {
     if thread.came >= Limits::OUTCOMES {
         return false;
@@ -94,9 +97,12 @@ pub fn record(
     rows: &mut Vec<PackedRow>,
 ) -> Progress
     requires outside { thread.old.phase ≡ phase.Outside outing }
-    ensures event { (clock : ℕ) → Records result outing given (recorded_parts (timed thread.old clock) rows.old.items) (recorded_parts (timed thread.new clock) rows.new.items) }
+    ensures event { (clock : ℕ) → Records result outing given
+        (recorded_parts (timed thread.old clock) rows.old.items)
+        (recorded_parts (timed thread.new clock) rows.new.items) }
     ensures live { is_live thread.old.phase ≡ true → is_live thread.new.phase ≡ true }
-    ensures room { KeepsRoom (rows_due thread.old.phase) rows.old (rows_due thread.new.phase) rows.new }
+    ensures room { KeepsRoom (rows_due thread.old.phase) rows.old (rows_due thread.new.phase)
+        rows.new }
     ensures brings { BringsNoCall thread.old.phase rows.old.items thread.new.phase rows.new.items }
     ensures calls { KeepsCalls rows.old.items rows.new.items }
 {
@@ -125,13 +131,23 @@ pub fn answer_outside(
     requires recorded { thread.old.phase ≡ phase.Recorded outing }
     requires few { length clocks.old ≤ limit.THREADS }
     requires born { BornWithin (2 * time_of clocks.old) shared.old.store }
-    requires decided { HasDecidedAt i thread.old.phase shared.old.lock shared.old.rows.items shared.old.store shared.old.wanted }
-    ensures event { AnswersOutside patience result i outing (outside_parts (timed thread.old (clock_at clocks.old i)) lock.old shared.old.lock shared.old.store shared.old.rows.items) (outside_parts (timed thread.new (clock_at clocks.new i)) lock.new shared.new.lock shared.new.store shared.new.rows.items) }
+    requires decided { HasDecidedAt i thread.old.phase shared.old.lock shared.old.rows.items
+        shared.old.store shared.old.wanted }
+    ensures event { AnswersOutside patience result i outing
+        (outside_parts (timed thread.old (clock_at clocks.old i)) lock.old shared.old.lock
+        shared.old.store shared.old.rows.items)
+        (outside_parts (timed thread.new (clock_at clocks.new i)) lock.new shared.new.lock
+        shared.new.store shared.new.rows.items) }
     ensures others { KeepsOthers i thread.old clocks.old thread.new clocks.new }
-    ensures births { BearsInTime (clock_at clocks.old i) shared.old.store (clock_at clocks.new i) shared.new.store }
-    ensures room { KeepsRoom (rows_due thread.old.phase) shared.old.rows (rows_due thread.new.phase) shared.new.rows }
-    ensures brings { BringsNoCall thread.old.phase shared.old.rows.items thread.new.phase shared.new.rows.items }
-    ensures wanted { (k : ℕ) → shared.new.lock.holder ≡ Some k → LeavesWanted k shared.old.lock shared.old.rows.items shared.old.store shared.old.wanted shared.new.rows.items shared.new.store shared.new.wanted }
+    ensures births { BearsInTime (clock_at clocks.old i) shared.old.store (clock_at clocks.new i)
+        shared.new.store }
+    ensures room { KeepsRoom (rows_due thread.old.phase) shared.old.rows (rows_due thread.new.phase)
+        shared.new.rows }
+    ensures brings { BringsNoCall thread.old.phase shared.old.rows.items thread.new.phase
+        shared.new.rows.items }
+    ensures wanted { (k : ℕ) → shared.new.lock.holder ≡ Some k
+        → LeavesWanted k shared.old.lock shared.old.rows.items shared.old.store shared.old.wanted
+        shared.new.rows.items shared.new.store shared.new.wanted }
 {
     if !holds_locks(outing, i, *lock, shared.lock) {
         return None;
@@ -164,7 +180,8 @@ pub fn answer_outside(
 
 // Whether thread i holds the lock of its object and, where its call kept the table, that of the table.
 fn holds_locks(outing: Outing, i: usize, object: DetLock, table: DetLock) -> bool
-    ensures { result ≡ (is_number object.holder i && (not outing.keeps_table || is_number table.holder i)) }
+    ensures { result ≡ (is_number object.holder i &&
+        (not outing.keeps_table || is_number table.holder i)) }
 {
     holds(object, i) && (!outing.keeps_table || holds(table, i))
 }
@@ -201,7 +218,8 @@ fn end_turn(
     requires copy { room.old.told ≤ room.old.row }
     requires decided { outing.keeps_table ≡ true
         → IsWanted store.old (call.now, outing.carried.moved) wanted }
-    ensures event { EndsTurn outing.keeps_table patience outing call.now outcome.now result store.old store.new }
+    ensures event { EndsTurn outing.keeps_table patience outing call.now outcome.now result
+        store.old store.new }
     ensures copy { turn_bytes result ≤ room.new.row }
     ensures births { BearsInTime 0 store.old 1 store.new }
     ensures kept { outing.keeps_table ≡ false → store.new ≡ store.old }

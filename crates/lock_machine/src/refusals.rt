@@ -1,7 +1,13 @@
-ghost use Rattle.std.specs.Prelude.{◌≡◌, ◌<◌, ◌&&◌, not, true, false, Ok, Err, IfErr, IfOk, OnErr, is_ok, is_some, length, unwrap_or};
+ghost use Rattle.std.specs.Prelude.{◌≡◌, ◌<◌, ◌&&◌, not, true, false, Ok, Err, IfErr, IfOk, OnErr};
+ghost use Rattle.std.specs.Prelude.{is_ok, is_some, length, unwrap_or};
 ghost use Rattle.logical_clocks.specs.TurnOrder.{has_turn};
-ghost use Rattle.lock_machine.specs.Refusals.{Comes, OnMemory, Rests, Tried, WantsNone, attempted, goes_outside, has_answer, is_blocked, is_end, is_outside, outlook, phase_at, recorded_as, still_wants, wants_lock, wants_object, wants_table, works};
-ghost use Rattle.lock_machine.specs.Shows.{AdvancesQuietly, AsksFor, Attempts, MayAdvance, MayAsk, RecordsGiven, Tells};
+ghost use Rattle.lock_machine.specs.Refusals.{Comes, OnMemory, Rests, Tried, WantsNone, attempted};
+ghost use Rattle.lock_machine.specs.Refusals.{goes_outside, has_answer, is_blocked, is_end};
+ghost use Rattle.lock_machine.specs.Refusals.{is_outside, outlook, phase_at, recorded_as};
+ghost use Rattle.lock_machine.specs.Refusals.{still_wants, wants_lock, wants_object, wants_table};
+ghost use Rattle.lock_machine.specs.Refusals.{works};
+ghost use Rattle.lock_machine.specs.Shows.{AdvancesQuietly, AsksFor, Attempts, MayAdvance, MayAsk};
+ghost use Rattle.lock_machine.specs.Shows.{RecordsGiven, Tells};
 ghost use Rattle.lock_machine.specs.Shows.{WantsAt, has_moved};
 ghost use Rattle.lock_machine.specs.Views.{clocks_of};
 ghost use Rattle.lock_machine.specs.Whole.{settings_in};
@@ -17,13 +23,16 @@ use crate::thread::Phase;
 use lock_model::arising_states;
 use posix_terms::{Answer, Given, Step};
 
-// The events as a driver makes them: each looks at the phase of its thread first, and is refused where that is not its own.
+// The events as a driver makes them: each looks at the phase of its
+// thread first, and is refused where that is not its own.
 impl LockMachine {
-    /// Thread i, which works, asks this step: it works on for so long, or wants a call made. Its end is [`LockMachine::end`].
+    /// Thread i, which works, asks this step: it works on for so long, or
+    /// wants a call made. Its end is [`LockMachine::end`].
     #[inline(always)]
     pub fn ask(&mut self, i: usize, step: Step) -> Result<(), LockRefused>
         requires { i < length self.old.threads }
-        ensures event { Comes (works (phase_at self.old i) && not (is_end step)) result self.old self.new (λ o. AsksFor (is_some o) i step self.old self.new) }
+        ensures event { Comes (works (phase_at self.old i) && not (is_end step)) result self.old
+            self.new (λ o. AsksFor (is_some o) i step self.old self.new) }
         ensures memory { OnMemory result (MayAsk i step self.old) }
         ensures err { OnErr result (self.new ≡ self.old) }
         ensures count { length self.new.threads ≡ length self.old.threads }
@@ -38,7 +47,8 @@ impl LockMachine {
     /// Thread i, which works, ends.
     pub fn end(&mut self, i: usize) -> Result<(), LockRefused>
         requires { i < length self.old.threads }
-        ensures event { Comes (works (phase_at self.old i)) result self.old self.new (λ o. AsksFor (is_some o) i step.End self.old self.new) }
+        ensures event { Comes (works (phase_at self.old i)) result self.old self.new
+            (λ o. AsksFor (is_some o) i step.End self.old self.new) }
         ensures memory { WantsNone result }
         ensures err { OnErr result (self.new ≡ self.old) }
         ensures count { length self.new.threads ≡ length self.old.threads }
@@ -53,7 +63,9 @@ impl LockMachine {
     /// Thread i, which wants the table and has the turn, attempts its lock. It costs 1 either way.
     pub fn try_table(&mut self, i: usize) -> Result<Attempt, LockRefused>
         requires { i < length self.old.threads }
-        ensures event { Comes (wants_table (phase_at self.old i) && has_turn (clocks_of self.old.threads) i) result self.old self.new (λ o. Attempts (is_some o) i self.old self.new) }
+        ensures event { Comes (wants_table (phase_at self.old i) && has_turn
+            (clocks_of self.old.threads) i) result self.old self.new
+            (λ o. Attempts (is_some o) i self.old self.new) }
         ensures got { IfOk result (λ a. a ≡ attempted (wants_table (phase_at self.new i))) }
         ensures memory { WantsNone result }
         ensures count { length self.new.threads ≡ length self.old.threads }
@@ -65,11 +77,14 @@ impl LockMachine {
         self.take_table(i)
     }
 
-    /// Thread i, which wants an object and has the turn, attempts its lock. It costs 1 either way, and 1 more where it has
+    /// Thread i, which wants an object and has the turn, attempts its
+    /// lock. It costs 1 either way, and 1 more where it has
     /// it and frees the table.
     pub fn try_node(&mut self, i: usize) -> Result<Attempt, LockRefused>
         requires { i < length self.old.threads }
-        ensures event { Comes (wants_object (phase_at self.old i) && has_turn (clocks_of self.old.threads) i) result self.old self.new (λ o. Attempts (is_some o) i self.old self.new) }
+        ensures event { Comes (wants_object (phase_at self.old i) && has_turn
+            (clocks_of self.old.threads) i) result self.old self.new
+            (λ o. Attempts (is_some o) i self.old self.new) }
         ensures got { IfOk result (λ a. a ≡ attempted (wants_object (phase_at self.new i))) }
         ensures memory { WantsNone result }
         ensures count { length self.new.threads ≡ length self.old.threads }
@@ -108,7 +123,8 @@ impl LockMachine {
     /// Thread i, which was granted a call that it goes outside with, does so.
     pub fn begin_outside(&mut self, i: usize) -> Result<(), LockRefused>
         requires { i < length self.old.threads }
-        ensures event { Comes (goes_outside (phase_at self.old i)) result self.old self.new (λ o. AdvancesQuietly (is_some o) i self.old self.new) }
+        ensures event { Comes (goes_outside (phase_at self.old i)) result self.old self.new
+            (λ o. AdvancesQuietly (is_some o) i self.old self.new) }
         ensures memory { WantsNone result }
         ensures err { OnErr result (self.new ≡ self.old) }
         ensures count { length self.new.threads ≡ length self.old.threads }
@@ -120,11 +136,13 @@ impl LockMachine {
         moved(self.go_outside(i, outing))
     }
 
-    /// What would come of this outcome for thread i: it would be taken, or does not answer what was asked, or none can be taken.
+    /// What would come of this outcome for thread i: it would be taken, or
+    /// does not answer what was asked, or none can be taken.
     pub fn outlook(&self, i: usize, given: &Given) -> Progress
         requires { i < length self.now.threads }
         ensures value { result ≡ outlook self.now i given.now }
-        ensures event { is_outside (phase_at self.now i) ≡ true → has_moved result ≡ false → RecordsGiven result i given.now self.now self.now }
+        ensures event { is_outside (phase_at self.now i) ≡ true → has_moved result ≡ false
+            → RecordsGiven result i given.now self.now self.now }
     {
         arising_states();
         requests_asked();
@@ -138,8 +156,10 @@ impl LockMachine {
     /// is reported, and nothing changes (`rests`): [`LockMachine::outlook`] reports it before.
     pub fn record(&mut self, i: usize, given: Given) -> Result<Progress, LockRefused>
         requires { i < length self.old.threads }
-        ensures event { Comes (is_outside (phase_at self.old i)) result self.old self.new (λ o. RecordsGiven (unwrap_or o progress.Stays) i given self.old self.new) }
-        ensures value { result ≡ recorded_as (is_outside (phase_at self.old i)) (outlook self.old i given) }
+        ensures event { Comes (is_outside (phase_at self.old i)) result self.old self.new
+            (λ o. RecordsGiven (unwrap_or o progress.Stays) i given self.old self.new) }
+        ensures value { result ≡ recorded_as (is_outside (phase_at self.old i))
+            (outlook self.old i given) }
         ensures rests { IfOk result (λ made. Rests (has_moved made) self.old self.new) }
         ensures count { length self.new.threads ≡ length self.old.threads }
         ensures settings { settings_in self.new ≡ settings_in self.old }
@@ -157,7 +177,8 @@ impl LockMachine {
     #[inline(always)]
     pub fn answer(&mut self, i: usize) -> Result<Answer, LockRefused>
         requires { i < length self.old.threads }
-        ensures event { Comes (has_answer (phase_at self.old i)) result self.old self.new (λ told. Tells told i self.old self.new) }
+        ensures event { Comes (has_answer (phase_at self.old i)) result self.old self.new
+            (λ told. Tells told i self.old self.new) }
         ensures memory { WantsNone result }
         ensures err { OnErr result (self.new ≡ self.old) }
         ensures count { length self.new.threads ≡ length self.old.threads }
@@ -167,7 +188,9 @@ impl LockMachine {
             Phase::Granted { row, object, .. } => self
                 .answer_granted(i, row, object)
                 .ok_or(LockRefused::ClockFull),
-            Phase::Recorded(outing) => self.answer_recorded(i, outing).ok_or(LockRefused::ClockFull),
+            Phase::Recorded(outing) => self
+                .answer_recorded(i, outing)
+                .ok_or(LockRefused::ClockFull),
             _ => Err(LockRefused::WrongPhase),
         }
     }
@@ -175,7 +198,8 @@ impl LockMachine {
     /// Thread i, which is blocked, makes its call again.
     pub fn again(&mut self, i: usize) -> Result<(), LockRefused>
         requires { i < length self.old.threads }
-        ensures event { Comes (is_blocked (phase_at self.old i)) result self.old self.new (λ o. AdvancesQuietly (is_some o) i self.old self.new) }
+        ensures event { Comes (is_blocked (phase_at self.old i)) result self.old self.new
+            (λ o. AdvancesQuietly (is_some o) i self.old self.new) }
         ensures memory { OnMemory result (MayAdvance i self.old) }
         ensures err { OnErr result (self.new ≡ self.old) }
         ensures count { length self.new.threads ≡ length self.old.threads }

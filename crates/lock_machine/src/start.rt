@@ -5,9 +5,9 @@ ghost use Rattle.lock_machine.specs.Starting.{first_item, first_whole};
 use crate::machine::{LockMachine, Shared};
 use crate::steps::Steps;
 use crate::thread::{Phase, Thread};
+use call_turns::{Room, Store};
 use det_mutex::DetLock;
 use logical_clocks::Clocks;
-use call_turns::{Room, Store};
 use posix_terms::{Limits, Settings};
 use std::alloc::{AllocError, Global};
 

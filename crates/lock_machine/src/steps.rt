@@ -7,7 +7,8 @@ use posix_terms::Step;
 use std::alloc::{AllocError, Global};
 use std::marker::Model;
 
-/// The steps that one thread asked, in order. There is room for its end, until that is asked. Contracts see the list of them.
+/// The steps that one thread asked, in order. There is room for its end,
+/// until that is asked. Contracts see the list of them.
 #[derive(Debug, Drop)]
 pub struct Steps {
     list: Vec<Step>,

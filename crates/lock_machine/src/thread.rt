@@ -2,8 +2,8 @@ ghost use Rattle.std.specs.Prelude.{◌≡◌};
 ghost use Rattle.lock_machine.specs.Rooms.{HasSpace};
 
 use crate::steps::Steps;
-use descriptor_table::Errand;
 use call_turns::{Room, TurnEnd};
+use descriptor_table::Errand;
 use posix_terms::{Call, Carried};
 
 /// A call that goes outside: the row of the history that it has, the object whose lock it holds, what it carries from
@@ -54,7 +54,8 @@ pub enum Phase {
 }
 
 impl Phase {
-    ghost use Rattle.lock_machine.specs.Refusals.{is_blocked, wants_lock, wants_object, wants_table, works};
+    ghost use Rattle.lock_machine.specs.Refusals.{is_blocked, wants_lock, wants_object};
+    ghost use Rattle.lock_machine.specs.Refusals.{wants_table, works};
 
     pub(crate) fn is_working(&self) -> bool
         ensures { result ≡ works self.now }
