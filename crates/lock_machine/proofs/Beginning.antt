@@ -28,11 +28,16 @@ shown_first terms k = record { clock = refl; in_time = lit≤ tt; asked = refl; 
 shown_past : (terms : Conditions) (k : ℕ) → ThreadShows terms k [] no_thread nobody
 shown_past terms k = record { clock = refl; in_time = lit≤ tt; asked = refl; came = refl; phase = refl }
 
-first_threads : (terms : Conditions) (n k : ℕ) → ThreadShows terms k [] (get_or (replicate n first_thread) k no_thread) (get_or (replicate n new_thread) k nobody)
+first_threads : (terms : Conditions) (n k : ℕ)
+    → ThreadShows terms k [] (get_or (replicate n first_thread) k no_thread) (get_or (replicate n new_thread) k nobody)
 first_threads terms n k =
     ⊎_elim
-    (λ (l : k < n). thread_along terms k k [] (get_or (replicate n first_thread) k no_thread) first_thread (get_or (replicate n new_thread) k nobody) new_thread refl (get_or-replicate n k first_thread no_thread l) (get_or-replicate n k new_thread nobody l) (shown_first terms k))
-    (λ (l : n ≤ k). thread_along terms k k [] (get_or (replicate n first_thread) k no_thread) no_thread (get_or (replicate n new_thread) k nobody) nobody refl (past_last n k first_thread no_thread l) (past_last n k new_thread nobody l) (shown_past terms k))
+    (λ (l : k < n). thread_along terms k k [] (get_or (replicate n first_thread) k no_thread) first_thread
+    (get_or (replicate n new_thread) k nobody) new_thread refl (get_or-replicate n k first_thread no_thread l)
+    (get_or-replicate n k new_thread nobody l) (shown_first terms k))
+    (λ (l : n ≤ k). thread_along terms k k [] (get_or (replicate n first_thread) k no_thread) no_thread
+    (get_or (replicate n new_thread) k nobody) nobody refl (past_last n k first_thread no_thread l)
+    (past_last n k new_thread nobody l) (shown_past terms k))
     (cases_lt k n)
 
 pub shows_at_start : Stands first_stored first_world → ShowsAtStart

@@ -7,10 +7,13 @@ use Rattle.lock_machine.specs.Lives.{is_live}
 use Rattle.lock_machine.specs.Threads.{KeepsOthers}
 use Rattle.lock_machine.specs.declared.thread.Thread.{Thread}
 
-kept_by : (i : ℕ) (t u : Thread) (cs ds : List ThreadClock) (c : ThreadClock) → i < length cs → ds ≡ set cs i c → clock_at cs i ≤ c.clock
-    → ((let b : ThreadClock = thread_at cs i in b.live) ≡ is_live t.phase → c.live ≡ is_live u.phase) → KeepsOthers i t cs u ds
+kept_by : (i : ℕ) (t u : Thread) (cs ds : List ThreadClock) (c : ThreadClock) → i < length cs → ds ≡ set cs i c
+    → clock_at cs i ≤ c.clock
+    → ((let b : ThreadClock = thread_at cs i in b.live) ≡ is_live t.phase → c.live ≡ is_live u.phase)
+    → KeepsOthers i t cs u ds
 kept_by i t u cs ds c inside is forward live =
-    let own : thread_at ds i ≡ c = ap (λ (xs : List ThreadClock). thread_at xs i) is ∙ get_or-set_same cs i c no_thread inside in
+    let own : thread_at ds i ≡ c = ap (λ (xs : List ThreadClock). thread_at xs i) is
+    ∙ get_or-set_same cs i c no_thread inside in
     record {
       others = is ∙ ap (set cs i) (sym own);
       forward = subst (λ (x : ThreadClock). clock_at cs i ≤ x.clock) (sym own) forward;
@@ -18,5 +21,7 @@ kept_by i t u cs ds c inside is forward live =
     }
 
 -- nothing has changed in its clock
-pub kept_still : (i : ℕ) (t u : Thread) (cs ds : List ThreadClock) → i < length cs → ds ≡ cs → is_live t.phase ≡ is_live u.phase → KeepsOthers i t cs u ds
-kept_still i t u cs ds inside is same = kept_by i t u cs ds (thread_at cs i) inside (is ∙ sym (set-get_or cs i no_thread)) (omega arith) (λ h. h ∙ same)
+pub kept_still : (i : ℕ) (t u : Thread) (cs ds : List ThreadClock) → i < length cs → ds ≡ cs
+    → is_live t.phase ≡ is_live u.phase → KeepsOthers i t cs u ds
+kept_still i t u cs ds inside is same =
+    kept_by i t u cs ds (thread_at cs i) inside (is ∙ sym (set-get_or cs i no_thread)) (omega arith) (λ h. h ∙ same)
