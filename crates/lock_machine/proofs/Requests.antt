@@ -1,5 +1,6 @@
 -- No request asks for more than a record of its outcome can hold.
-use Rattle.std.proofs.Common.{◌≡◌, ◌≤◌, ℕ, Bool, true, Option, Some, None, if◌then◌else◌, Result, Ok, Err, refl, ap, sym, ◌∙◌, arith}
+use Rattle.std.proofs.Common.{◌≡◌, ◌≤◌, ℕ, Bool, true, Option, Some, None, if◌then◌else◌, Result, Ok, Err, refl, ap}
+use Rattle.std.proofs.Common.{sym, ◌∙◌, arith}
 use Rattle.std.specs.Option.{option_map}
 use Rattle.std.specs.Prelude.{IfOk}
 use Rattle.posix_terms.specs.Calls.{Call}
@@ -22,7 +23,8 @@ use Rattle.sequential_object.specs.Step.{asks, query_of}
 use Rattle.sequential_object.specs.declared.decision.Decision.{Decision}
 use Rattle.sequential_object.specs.declared.decision.Decision.TheVariants as decision
 use Rattle.sequential_object.specs.declared.decision.Deed.TheVariants as deed
-use Rattle.lock_machine.specs.Requests.{AskByTheirCall, AskLittle, AskTheirKind, IsOfKind, Little, kind_asked, query_for, query_of_kind}
+use Rattle.lock_machine.specs.Requests.{AskByTheirCall, AskLittle, AskTheirKind, IsOfKind, Little, kind_asked}
+use Rattle.lock_machine.specs.Requests.{query_for, query_of_kind}
 
 -- a request is the one that this call may make
 abbrev IsOf : Call → Option Query → Type 0
@@ -53,11 +55,13 @@ ended_suits c after (Replies (reply.Fail e)) = (tt, tt)
 ended_suits c after (Replies r) = (tt, tt)
 ended_suits c after (ending.Blocks moved) = (tt, tt)
 
-close_suits : (s : State) (c : Call) (object n key : ℕ) → IsClose c → Suits c (query_of c (meant s c (Ok (decision.Locks object (deed.Closes n key)))))
+close_suits : (s : State) (c : Call) (object n key : ℕ) → IsClose c
+    → Suits c (query_of c (meant s c (Ok (decision.Locks object (deed.Closes n key)))))
 close_suits s (call.Close descriptor) object n key is = (refl, omega arith)
 close_suits s c object n key is = absurd is
 
-suits : (s : State) (c : Call) (r : Result Decision Errno) → IfOk r (IsSo (seen s) c) → Suits c (query_of c (meant s c r))
+suits : (s : State) (c : Call) (r : Result Decision Errno) → IfOk r (IsSo (seen s) c)
+    → Suits c (query_of c (meant s c r))
 suits s c (Err e) so = (tt, tt)
 suits s c (Ok (decision.Replies r x)) so = (tt, tt)
 suits s c (Ok (decision.Locks object (deed.Acts a x))) so =
@@ -69,8 +73,10 @@ suits s c (Ok (decision.Locks object (deed.Closes n key))) so = close_suits s c 
 suits s c (Ok (decision.Locks object (deed.Opens blocks listener new))) so = (query_is c so.2.0, so.2.1)
 
 module _ (so : DecidedSo) where
-  all_suit : (s : State) (c : Call) (carried : Carried) → Suits c (query_of c (meant s c (decided (seen s) c carried.moved)))
-  all_suit s c carried = suits s c (decided (seen s) c carried.moved) (so.so (seen s) c carried.moved (let known = so.shows s in known.numbered))
+  all_suit : (s : State) (c : Call) (carried : Carried)
+      → Suits c (query_of c (meant s c (decided (seen s) c carried.moved)))
+  all_suit s c carried = suits s c (decided (seen s) c carried.moved)
+      (so.so (seen s) c carried.moved (let known = so.shows s in known.numbered))
 
   pub asked_little : AskLittle
   asked_little s c carried = (all_suit s c carried).1

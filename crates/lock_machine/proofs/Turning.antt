@@ -11,10 +11,12 @@ use Rattle.lock_machine.specs.declared.thread.Phase.{Phase}
 use Rattle.lock_machine.specs.declared.thread.Phase.TheVariants as phase
 use Rattle.lock_machine.specs.Threads.{Thread}
 
-live_phase : (terms : Conditions) (i : ℕ) (rows : List Row) (t : Thread) (u : lock.Thread) (p : Phase) (c : ℕ) → PhaseShows terms i rows t u p → live_clock_in u.phase c ≡ live_in p c
+live_phase : (terms : Conditions) (i : ℕ) (rows : List Row) (t : Thread) (u : lock.Thread) (p : Phase) (c : ℕ)
+    → PhaseShows terms i rows t u p → live_clock_in u.phase c ≡ live_in p c
 live_phase terms i rows t u phase.Working c h = ap (λ (p : lock.Phase). live_clock_in p c) h
 live_phase terms i rows t u (phase.WantsTable call carried) c h = ap (λ (p : lock.Phase). live_clock_in p c) h
-live_phase terms i rows t u (phase.WantsObject call carried clock object) c h = ap (λ (p : lock.Phase). live_clock_in p c) h.1.0
+live_phase terms i rows t u (phase.WantsObject call carried clock object) c h =
+    ap (λ (p : lock.Phase). live_clock_in p c) h.1.0
 live_phase terms i rows t u (phase.Granted place object e) c h = ap (λ (p : lock.Phase). live_clock_in p c) h.1.0
 live_phase terms i rows t u (phase.ToOutside outing) c h = ap (λ (p : lock.Phase). live_clock_in p c) h.1.0
 live_phase terms i rows t u (phase.Outside outing) c h = ap (λ (p : lock.Phase). live_clock_in p c) h.1.0
@@ -22,8 +24,10 @@ live_phase terms i rows t u (phase.Recorded outing) c h = ap (λ (p : lock.Phase
 live_phase terms i rows t u (phase.Blocked carried) c h = ap (λ (p : lock.Phase). live_clock_in p c) h.1
 live_phase terms i rows t u phase.Ended c h = ap (λ (p : lock.Phase). live_clock_in p c) h
 
-live_thread : (terms : Conditions) (i : ℕ) (rows : List Row) (t : Thread) (u : lock.Thread) → ThreadShows terms i rows t u → live_clock u ≡ live_clock_of t
-live_thread terms i rows t u h = ap (live_clock_in u.phase) h.clock ∙ live_phase terms i rows t u t.phase t.clock h.phase
+live_thread : (terms : Conditions) (i : ℕ) (rows : List Row) (t : Thread) (u : lock.Thread)
+    → ThreadShows terms i rows t u → live_clock u ≡ live_clock_of t
+live_thread terms i rows t u h = ap (live_clock_in u.phase) h.clock
+    ∙ live_phase terms i rows t u t.phase t.clock h.phase
 
 pub clocks_shown : (terms : Conditions) (w : Whole) (s : State) → Shows terms w s → live_clocks s ≡ clocks_of w.threads
 clocks_shown terms w s h =

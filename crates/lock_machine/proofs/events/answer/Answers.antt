@@ -22,12 +22,15 @@ returns-clause-event c table =
     let held : is_number c.args.lock.now.holder c.args.i ≡ true = search rules in
     let room : in_time old 1 ≡ true = search rules in
     let size : rows.len ≡ length rows.items = search rules in
-    let there : slice_get rows.items c.args.row ≡ Some q = slice_get_read rows.items rows.len c.args.row q size (c.in-Some.ensures.variant.0 refl) c.in-Some.ensures.value in
+    let there : slice_get rows.items c.args.row ≡ Some q = slice_get_read rows.items rows.len c.args.row q size
+    (c.in-Some.ensures.variant.0 refl) c.in-Some.ensures.value in
     let e = c.in-Granted.ends in
     let ends : end_held c.args.thread.now.phase ≡ Some e = search rules in
     let clocks : c.add.new.self ≡ with_clock c.args.clocks.now c.args.i (start + 1) = search rules in
     let at : clock_at c.add.new.self c.args.i ≡ start + 1 =
-    ap (λ (cs : List ThreadClock). clock_at cs c.args.i) clocks ∙ ap (λ (x : ThreadClock). x.clock) (get_or-set_same c.args.clocks.now c.args.i _ no_thread c.requires.inside) in
+    ap (λ (cs : List ThreadClock). clock_at cs c.args.i) clocks
+    ∙ ap (λ (x : ThreadClock). x.clock) (get_or-set_same c.args.clocks.now c.args.i _ no_thread c.requires.inside)
+    in
     let lock : c.free.new.self ≡ freed start = c.free.ensures ∙ ap freed c.clock-clock.ensures.value in
     let told : Some c.told_as.result ≡ Some (told_as e) = search rules in
     let behind : c.phase_behind-behind.result ≡ phase_behind e = c.phase_behind-behind.ensures.phase in

@@ -15,11 +15,15 @@ returns-in-Answers-clause-event c =
     let shared = c.args.shared.now in
     let new = c.settle_or_lock.new.self in
     let none : number_locked shared.store c.args.call c.args.carried ≡ None = search rules in
-    let makes : (patience : ℕ) → Makes patience c.args.carried shared.store c.args.call (start.Ended (end.Reply c.in-Answers.reply)) new = search rules in
+    let makes : (patience : ℕ) → Makes patience c.args.carried shared.store c.args.call
+    (start.Ended (end.Reply c.in-Answers.reply)) new = search rules in
     let reply = c.in-Answers.reply in
     let row : c.len-row.result ≡ length shared.rows.items = search rules in
     let seat = ap (λ n. phase.Granted n None (end.Reply reply)) row in
-    let rows : c.push_reserved.new.self.items ≡ shared.rows.items ++ granted_row c.args.turn c.args.call ∷ [] = search rules in
+    let rows : c.push_reserved.new.self.items ≡ shared.rows.items ++ granted_row c.args.turn c.args.call
+    ∷ [] = search rules in
     λ clock.
-    planned_none patience (number_locked shared.store c.args.call c.args.carried) c.args.turn c.args.call c.args.carried _ _ none
-    (seated patience c.args.turn c.args.call c.args.carried None (start.Ended (end.Reply reply)) (timed thread clock) _ shared.lock shared.store new shared.rows.items _ (makes patience) seat rows)
+    planned_none patience (number_locked shared.store c.args.call c.args.carried) c.args.turn c.args.call c.args.carried
+    _ _ none
+    (seated patience c.args.turn c.args.call c.args.carried None (start.Ended (end.Reply reply)) (timed thread clock) _
+    shared.lock shared.store new shared.rows.items _ (makes patience) seat rows)

@@ -17,18 +17,22 @@ returns-then-attempt-clause-event c =
     let start = clock_at c.args.clocks.now c.args.i in
     let now = clock_at c.add.new.self c.args.i in
     let old : Parts = parts (timed c.args.thread.now start) shared.lock shared.store shared.rows.items in
-    let new : Parts = parts (timed c.plan.new.thread now) c.plan.new.shared.lock c.plan.new.shared.store c.plan.new.shared.rows.items in
+    let new : Parts = parts (timed c.plan.new.thread now) c.plan.new.shared.lock c.plan.new.shared.store
+    c.plan.new.shared.rows.items in
     let is : c.args.thread.now.phase ≡ phase.WantsTable c.in-WantsTable.call c.in-WantsTable.carried = search rules in
     let room : in_time old 1 ≡ true = search rules in
     let free : takes shared.lock start ≡ true = search rules in
     let clock : now ≡ start + 1 = search rules in
     let lock : c.attempt.new.self ≡ held c.args.i shared.lock = search rules in
-    tried_planned c.args.patience c.args.i now c.in-WantsTable.call c.in-WantsTable.carried c.replace.new.dest _ c.attempt.new.self old new is room free clock
-    (ap (λ n. let t : Turn = record { clock = n; thread = c.args.i } in t) c.clock-clock.ensures.value) lock (c.plan.ensures.event now)
+    tried_planned c.args.patience c.args.i now c.in-WantsTable.call c.in-WantsTable.carried c.replace.new.dest _
+    c.attempt.new.self old new is room free clock
+    (ap (λ n. let t : Turn = record { clock = n; thread = c.args.i } in t) c.clock-clock.ensures.value) lock
+    (c.plan.ensures.event now)
 
 pub plan-requires-clause-born : goal.plan-requires-clause-born
 plan-requires-clause-born c =
-    few_born c.args.clocks.now c.args.shared.now.store c.requires.few c.clock-clock.ensures.all_within_limit c.requires.born
+    few_born c.args.clocks.now c.args.shared.now.store c.requires.few c.clock-clock.ensures.all_within_limit
+    c.requires.born
 
 pub plan-requires-clause-row : goal.plan-requires-clause-row
 plan-requires-clause-row c =

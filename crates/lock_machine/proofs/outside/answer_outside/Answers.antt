@@ -1,4 +1,5 @@
-use Rattle.std.proofs.Common.{◌≡◌, ◌+◌, ◌^◌, ℕ, Bool, List, Option, Some, None, true, false, refl, sym, ap, ◌∙◌, subst, length, rules}
+use Rattle.std.proofs.Common.{◌≡◌, ◌+◌, ◌^◌, ℕ, Bool, List, Option, Some, None, true, false, refl, sym, ap, ◌∙◌, subst}
+use Rattle.std.proofs.Common.{length, rules}
 use Rattle.std.proofs.lemmas.Option.{none-some, slice_get_read}
 use Rattle.std.specs.Option.{option_map}
 use Rattle.posix_terms.specs.Calls.{Call}
@@ -23,39 +24,54 @@ use Rattle.lock_machine.proofs.outside.answer_outside.Goals as goal
 
 pub returns-in_default-outcome-clause-event : goal.returns-in_default-outcome-clause-event
 returns-in_default-outcome-clause-event c =
-    let old = outside_parts (timed c.args.thread.now (clock_at c.args.clocks.now c.args.i)) c.args.lock.now c.args.shared.now.lock c.args.shared.now.store c.args.shared.now.rows.items in
+    let old = outside_parts (timed c.args.thread.now (clock_at c.args.clocks.now c.args.i)) c.args.lock.now
+    c.args.shared.now.lock c.args.shared.now.store c.args.shared.now.rows.items in
     let held : holds_locks c.args.i c.args.outing old ≡ true = search rules in
     let rows = c.args.shared.now.rows in
     let size : rows.len ≡ length rows.items = search rules in
-    let there : slice_get rows.items c.args.outing.row ≡ Some c.in-Some.row.now = slice_get_read rows.items rows.len c.args.outing.row c.in-Some.row.now size (c.in-Some.ensures.variant.0 refl) c.in-Some.ensures.value in
+    let there : slice_get rows.items c.args.outing.row ≡ Some c.in-Some.row.now =
+    slice_get_read rows.items rows.len c.args.outing.row c.in-Some.row.now size
+    (c.in-Some.ensures.variant.0 refl) c.in-Some.ensures.value in
     let none : c.in-Some.row.now.outcome ≡ None = search rules in
-    subst (λ (rows : List HistoryRow). AnswersOutside c.args.patience None c.args.i c.args.outing old (record old { rows = rows })) (sym (got_set c.args.shared.now.rows.items c.args.outing.row c.in-Some.row.now there))
+    subst (λ (rows : List HistoryRow). AnswersOutside c.args.patience None c.args.i c.args.outing old
+    (record old { rows = rows })) (sym
+    (got_set c.args.shared.now.rows.items c.args.outing.row c.in-Some.row.now there))
     (concludes_pending c.args.patience c.args.i c.args.outing old c.in-Some.row.now held there none)
 
 pub free-requires : goal.free-requires
 free-requires c =
-    let old = outside_parts (timed c.args.thread.now (clock_at c.args.clocks.now c.args.i)) c.args.lock.now c.args.shared.now.lock c.args.shared.now.store c.args.shared.now.rows.items in
+    let old = outside_parts (timed c.args.thread.now (clock_at c.args.clocks.now c.args.i)) c.args.lock.now
+    c.args.shared.now.lock c.args.shared.now.store c.args.shared.now.rows.items in
     let held : holds_locks c.args.i c.args.outing old ≡ true = search rules in
     object_holder c.args.i c.args.outing old held
 
 pub returns-clause-event : goal.returns-clause-event
 returns-clause-event c =
-    let old = outside_parts (timed c.args.thread.now (clock_at c.args.clocks.now c.args.i)) c.args.lock.now c.args.shared.now.lock c.args.shared.now.store c.args.shared.now.rows.items in
+    let old = outside_parts (timed c.args.thread.now (clock_at c.args.clocks.now c.args.i)) c.args.lock.now
+    c.args.shared.now.lock c.args.shared.now.store c.args.shared.now.rows.items in
     let held : holds_locks c.args.i c.args.outing old ≡ true = search rules in
     let rows = c.args.shared.now.rows in
     let size : rows.len ≡ length rows.items = search rules in
-    let there : slice_get rows.items c.args.outing.row ≡ Some c.in-Some.row.now = slice_get_read rows.items rows.len c.args.outing.row c.in-Some.row.now size (c.in-Some.ensures.variant.0 refl) c.in-Some.ensures.value in
+    let there : slice_get rows.items c.args.outing.row ≡ Some c.in-Some.row.now =
+    slice_get_read rows.items rows.len c.args.outing.row c.in-Some.row.now size
+    (c.in-Some.ensures.variant.0 refl) c.in-Some.ensures.value in
     let came : c.in-Some.row.now.outcome ≡ Some c.in-Some-outcome.outcome.now = search rules in
     let room : nat_le (old.thread.clock + answer_cost c.args.outing.keeps_table) (2 ^ 62) ≡ true = search rules in
-    let clocks : c.add.new.self ≡ with_clock c.args.clocks.now c.args.i (clock_at c.args.clocks.now c.args.i + c.answer_cost.result) = search rules in
+    let clocks : c.add.new.self ≡ with_clock c.args.clocks.now c.args.i
+    (clock_at c.args.clocks.now c.args.i + c.answer_cost.result) = search rules in
     let at : clock_at c.add.new.self c.args.i ≡ old.thread.clock + answer_cost c.args.outing.keeps_table =
-    ap (λ (cs : List ThreadClock). clock_at cs c.args.i) clocks ∙ ap (λ (x : ThreadClock). x.clock) (get_or-set_same c.args.clocks.now c.args.i _ no_thread c.requires.inside) ∙ ap (λ n. old.thread.clock + n) c.answer_cost.ensures in
+    ap (λ (cs : List ThreadClock). clock_at cs c.args.i) clocks
+    ∙ ap (λ (x : ThreadClock). x.clock) (get_or-set_same c.args.clocks.now c.args.i _ no_thread c.requires.inside)
+    ∙ ap (λ n. old.thread.clock + n) c.answer_cost.ensures in
     let end = c.end_turn-end.result in
     let behind : c.phase_behind.result ≡ phase_behind end = c.phase_behind.ensures.phase in
     let row : c.answer.new.self ≡ record c.in-Some.row.now { answer = Some (told_as end) } =
     c.answer.ensures ∙ ap (λ a. record c.in-Some.row.now { answer = Some a }) c.answer_copied.ensures in
     let object : c.free.new.self ≡ freed old.thread.clock = c.free.ensures ∙ ap freed c.clock-now.ensures.value in
-    let lock : c.free_table.new.table ≡ table_freed c.args.outing.keeps_table (old.thread.clock + 1) c.args.shared.now.lock = c.free_table.ensures ∙ ap (λ n. table_freed c.args.outing.keeps_table (n + 1) c.args.shared.now.lock) c.clock-now.ensures.value in
+    let lock : c.free_table.new.table ≡ table_freed c.args.outing.keeps_table (old.thread.clock + 1)
+    c.args.shared.now.lock = c.free_table.ensures
+    ∙ ap (λ n. table_freed c.args.outing.keeps_table (n + 1) c.args.shared.now.lock) c.clock-now.ensures.value
+    in
     let outcome = c.in-Some-outcome.outcome.now in
     let patience = c.args.patience in
     let outing = c.args.outing in
@@ -75,7 +91,8 @@ returns-clause-event c =
 
 pub end_turn-end-requires-clause-born : goal.end_turn-end-requires-clause-born
 end_turn-end-requires-clause-born c =
-    few_born c.args.clocks.now c.args.shared.now.store c.requires.few c.clock-now.ensures.all_within_limit c.requires.born
+    few_born c.args.clocks.now c.args.shared.now.store c.requires.few c.clock-now.ensures.all_within_limit
+    c.requires.born
 
 pub end_turn-end-requires-clause-decided : goal.end_turn-end-requires-clause-decided
 end_turn-end-requires-clause-decided c keeps =
@@ -83,9 +100,12 @@ end_turn-end-requires-clause-decided c keeps =
     let shared = c.args.shared.now in
     let rows = shared.rows in
     let size : rows.len ≡ length rows.items = search rules in
-    let there : slice_get rows.items outing.row ≡ Some c.in-Some.row.now = slice_get_read rows.items rows.len outing.row c.in-Some.row.now size (c.in-Some.ensures.variant.0 refl) c.in-Some.ensures.value in
+    let there : slice_get rows.items outing.row ≡ Some c.in-Some.row.now =
+    slice_get_read rows.items rows.len outing.row c.in-Some.row.now size (c.in-Some.ensures.variant.0 refl)
+    c.in-Some.ensures.value in
     let held : shared.lock.holder ≡ Some c.args.i = search rules in
-    let call : call_at rows.items outing.row ≡ Some c.in-Some.row.now.call = ap (option_map (λ (r : HistoryRow). r.call)) there in
+    let call : call_at rows.items outing.row ≡ Some c.in-Some.row.now.call =
+    ap (option_map (λ (r : HistoryRow). r.call)) there in
     let its : wanted_call c.args.thread.now.phase rows.items ≡ Some (c.in-Some.row.now.call, outing.carried.moved) =
     ap (λ (p : Phase). wanted_call p rows.items) c.requires.recorded
     ∙ ap (λ (b : Bool). kept_call b (call_at rows.items outing.row) outing.carried.moved) keeps
@@ -105,7 +125,8 @@ returns-clause-wanted c = by_keep c.args.outing.keeps_table refl
     there : slice_get old.rows.items c.args.outing.row ≡ Some c.in-Some.row.now
     there =
         let size : old.rows.len ≡ length old.rows.items = search rules in
-        slice_get_read old.rows.items old.rows.len c.args.outing.row c.in-Some.row.now size (c.in-Some.ensures.variant.0 refl) c.in-Some.ensures.value
+        slice_get_read old.rows.items old.rows.len c.args.outing.row c.in-Some.row.now size
+        (c.in-Some.ensures.variant.0 refl) c.in-Some.ensures.value
 
     rows : List HistoryRow
     rows = set old.rows.items c.args.outing.row c.answer.new.self
@@ -120,8 +141,11 @@ returns-clause-wanted c = by_keep c.args.outing.keeps_table refl
         → LeavesWanted k old.lock old.rows.items old.store old.wanted rows c.end_turn-end.new.store
         old.wanted
     by_keep true is k held =
-        let free : c.free_table.new.table.holder ≡ None = ap (λ (l : DetLock). l.holder) (c.free_table.ensures ∙ ap (λ (b : Bool). table_freed b (c.clock-now.result + 1) old.lock) is) in
+        let free : c.free_table.new.table.holder ≡ None =
+        ap (λ (l : DetLock). l.holder) (c.free_table.ensures
+        ∙ ap (λ (b : Bool). table_freed b (c.clock-now.result + 1) old.lock) is) in
         absurd (none-some k (sym free ∙ held))
     by_keep false is k held =
-        let same : c.free_table.new.table ≡ old.lock = c.free_table.ensures ∙ ap (λ (b : Bool). table_freed b (c.clock-now.result + 1) old.lock) is in
+        let same : c.free_table.new.table ≡ old.lock = c.free_table.ensures
+        ∙ ap (λ (b : Bool). table_freed b (c.clock-now.result + 1) old.lock) is in
         (ap (λ (l : DetLock). l.holder) (sym same) ∙ held, calls, c.end_turn-end.ensures.kept is, refl)

@@ -20,12 +20,17 @@ loop-i-preserved c =
     let now = c.loop-i.clocks in
     let n = c.loop-i.i in
     let P : List ThreadClock → Type 0 = ArePassedBelow turn ts (n + 1) old in
-    let wants : wants_lock (phase_of ts n) ≡ c.wants_lock.result = ap (λ (t : Thread). wants_lock t.phase) (sym (get_or_default ts n c.index-threads-i.result no_item c.loop-i-test.true)) ∙ sym c.wants_lock.ensures in
+    let wants : wants_lock (phase_of ts n) ≡ c.wants_lock.result =
+    ap (λ (t : Thread). wants_lock t.phase)
+    (sym (get_or_default ts n c.index-threads-i.result no_item c.loop-i-test.true))
+    ∙ sym c.wants_lock.ensures in
     let inside : n < length old = few c in
     elim c.if-wants_lock.branch [
       | then-wants_lock w ↦
-          subst P (sym w.clocks-is) (one_more turn ts n w.first_from.result old now w.raise.new.self inside (wants ∙ w.if-wants_lock.true) w.first_from.ensures w.raise.ensures c.loop-i.invariant)
-      | else-wants_lock w ↦ subst P (sym w.clocks-is) (none_more turn ts n old now (wants ∙ w.if-wants_lock.false) c.loop-i.invariant)
+          subst P (sym w.clocks-is) (one_more turn ts n w.first_from.result old now w.raise.new.self inside
+          (wants ∙ w.if-wants_lock.true) w.first_from.ensures w.raise.ensures c.loop-i.invariant)
+      | else-wants_lock w ↦ subst P (sym w.clocks-is)
+          (none_more turn ts n old now (wants ∙ w.if-wants_lock.false) c.loop-i.invariant)
     ]
   where
     few : (c : goal.Joined-wants_lock) → c.loop-i.i < length c.args.clocks.now

@@ -15,7 +15,9 @@ returns-in-Granted-clause-event c =
     let right = has_answer (phase_at w i) in
     let there : right ≡ true = ap has_answer (sym c.phase.ensures ∙ c.in-Granted.is) in
     let P : Result Answer LockRefused → Type 0 = λ r. Comes right r w new (λ told. Tells told i w new) in
-    subst P (sym c.ok_or.ensures.value) (comes_given right c.answer_granted.result w new (λ told. Tells told i w new) there c.answer_granted.ensures.rests c.answer_granted.ensures.event)
+    subst P (sym c.ok_or.ensures.value)
+    (comes_given right c.answer_granted.result w new (λ told. Tells told i w new) there
+    c.answer_granted.ensures.rests c.answer_granted.ensures.event)
 
 pub returns-in-Recorded-clause-event : goal.returns-in-Recorded-clause-event
 returns-in-Recorded-clause-event c =
@@ -25,7 +27,9 @@ returns-in-Recorded-clause-event c =
     let right = has_answer (phase_at w i) in
     let there : right ≡ true = ap has_answer (sym c.phase.ensures ∙ c.in-Recorded.is) in
     let P : Result Answer LockRefused → Type 0 = λ r. Comes right r w new (λ told. Tells told i w new) in
-    subst P (sym c.ok_or-in-Recorded.ensures.value) (comes_given right c.answer_recorded.result w new (λ told. Tells told i w new) there c.answer_recorded.ensures.rests c.answer_recorded.ensures.event)
+    subst P (sym c.ok_or-in-Recorded.ensures.value)
+    (comes_given right c.answer_recorded.result w new (λ told. Tells told i w new) there
+    c.answer_recorded.ensures.rests c.answer_recorded.ensures.event)
 
 pub returns-in-Granted-clause-memory : goal.returns-in-Granted-clause-memory
 returns-in-Granted-clause-memory c =
@@ -36,7 +40,8 @@ pub returns-in-Granted-clause-err : goal.returns-in-Granted-clause-err
 returns-in-Granted-clause-err c =
     let new = c.answer_granted.new.self in
     let P : Result Answer LockRefused → Type 0 = λ r. OnErr r (new ≡ c.args.self.now) in
-    subst P (sym c.ok_or.ensures.value) (given_rests c.answer_granted.result c.args.self.now new c.answer_granted.ensures.rests)
+    subst P (sym c.ok_or.ensures.value)
+    (given_rests c.answer_granted.result c.args.self.now new c.answer_granted.ensures.rests)
 
 pub returns-in-Recorded-clause-memory : goal.returns-in-Recorded-clause-memory
 returns-in-Recorded-clause-memory c =
@@ -47,4 +52,5 @@ pub returns-in-Recorded-clause-err : goal.returns-in-Recorded-clause-err
 returns-in-Recorded-clause-err c =
     let new = c.answer_recorded.new.self in
     let P : Result Answer LockRefused → Type 0 = λ r. OnErr r (new ≡ c.args.self.now) in
-    subst P (sym c.ok_or-in-Recorded.ensures.value) (given_rests c.answer_recorded.result c.args.self.now new c.answer_recorded.ensures.rests)
+    subst P (sym c.ok_or-in-Recorded.ensures.value)
+    (given_rests c.answer_recorded.result c.args.self.now new c.answer_recorded.ensures.rests)

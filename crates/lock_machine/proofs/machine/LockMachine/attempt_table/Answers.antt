@@ -19,19 +19,31 @@ use Rattle.lock_machine.proofs.machine.LockMachine.attempt_table.Goals as goal
 pub invariant_of-self-inside : goal.invariant_of-self-inside
 invariant_of-self-inside c =
     let m = c.self.inside in
-    let v : Whole = whole_by m.settings m.threads.items m.clocks m.shared.lock m.objects.items m.shared.store m.shared.rows.items in
+    let v : Whole = whole_by m.settings m.threads.items m.clocks m.shared.lock m.objects.items m.shared.store
+    m.shared.rows.items in
     let view : v ≡ c.args.self.now = c.self.view_is in
     let inside = inside_of m.threads.items m.clocks v c.args.self.now c.args.i refl view c.requires.inside in
     let x = c.index_mut.result.now in
-    let item = item_of m.threads.items m.clocks c.args.i x c.try_table.new.thread c.try_table.new.clocks m.agree inside c.index_mut.ensures.value c.try_table.ensures.others in (
+    let item = item_of m.threads.items m.clocks c.args.i x c.try_table.new.thread c.try_table.new.clocks m.agree inside
+    c.index_mut.ensures.value c.try_table.ensures.others in (
       item_agrees m.threads.items m.clocks c.args.i x c.try_table.new.thread c.try_table.new.clocks m.agree item,
       (
         few_kept m.threads.items c.args.i c.try_table.new.thread m.few,
         (
-          born_later m.clocks c.try_table.new.clocks c.args.i c.index_mut.result.now c.try_table.new.thread m.shared.store c.try_table.new.shared.store (clock_inside m.threads.items m.clocks c.args.i m.agree inside) c.try_table.ensures.others c.try_table.ensures.births m.births,
+          born_later m.clocks c.try_table.new.clocks c.args.i c.index_mut.result.now c.try_table.new.thread
+              m.shared.store c.try_table.new.shared.store
+              (clock_inside m.threads.items m.clocks c.args.i m.agree inside) c.try_table.ensures.others
+              c.try_table.ensures.births m.births,
           (
-            room_kept m.threads.items c.args.i c.index_mut.result.now c.try_table.new.thread m.shared.rows c.try_table.new.shared.rows inside c.index_mut.ensures.value c.try_table.ensures.room m.room,
-            (waits_kept m.threads.items c.args.i c.index_mut.result.now c.try_table.new.thread m.shared.lock c.try_table.new.shared.lock m.shared.rows.items c.try_table.new.shared.rows.items m.shared.store c.try_table.new.shared.store m.shared.wanted c.try_table.new.shared.wanted inside c.try_table.ensures.decided c.try_table.ensures.wanted m.wanted, tt),
+            room_kept m.threads.items c.args.i c.index_mut.result.now c.try_table.new.thread m.shared.rows
+                c.try_table.new.shared.rows inside c.index_mut.ensures.value c.try_table.ensures.room m.room,
+            (
+              waits_kept m.threads.items c.args.i c.index_mut.result.now c.try_table.new.thread m.shared.lock
+                  c.try_table.new.shared.lock m.shared.rows.items c.try_table.new.shared.rows.items m.shared.store
+                  c.try_table.new.shared.store m.shared.wanted c.try_table.new.shared.wanted inside
+                  c.try_table.ensures.decided c.try_table.ensures.wanted m.wanted,
+              tt,
+            ),
           ),
         ),
       ),
@@ -40,7 +52,8 @@ invariant_of-self-inside c =
 pub returns-clause-event : goal.returns-clause-event
 returns-clause-event c =
     let m = c.self.inside in
-    let v : Whole = whole_by m.settings m.threads.items m.clocks m.shared.lock m.objects.items m.shared.store m.shared.rows.items in
+    let v : Whole = whole_by m.settings m.threads.items m.clocks m.shared.lock m.objects.items m.shared.store
+    m.shared.rows.items in
     let view : v ≡ c.args.self.now = c.self.view_is in
     let inside = inside_of m.threads.items m.clocks v c.args.self.now c.args.i refl view c.requires.inside in
     let x = c.index_mut.result.now in
@@ -48,15 +61,25 @@ returns-clause-event c =
     let wants = item_in P m.threads.items m.clocks v c.args.self.now c.args.i refl view inside c.requires.wants in
     let table = table_phase x.phase (phase_in P m.threads.items c.args.i x inside c.index_mut.ensures.value wants) in
     let turn = turn_of m.threads.items m.clocks v c.args.self.now c.args.i m.agree refl view c.requires.turn in
-    subst (λ (w : Whole). (λ (made : Bool). Attempts made c.args.i w (record v { threads = joined (set m.threads.items c.args.i c.try_table.new.thread) c.try_table.new.clocks; lock = c.try_table.new.shared.lock; table = c.try_table.new.shared.store; rows = c.try_table.new.shared.rows.items })) c.try_table.result) view
-    (try_done c.calls_outside.ensures.locks c.locks_and_doors.ensures.numbers v m.threads.items m.clocks c.try_table.new.clocks c.args.i table.0 table.1 x c.try_table.new.thread c.try_table.new.shared.lock c.try_table.new.shared.store c.try_table.new.shared.rows.items (Ok c.try_table.result)
-    (item_of m.threads.items m.clocks c.args.i x c.try_table.new.thread c.try_table.new.clocks m.agree inside c.index_mut.ensures.value c.try_table.ensures.others)
+    subst (λ (w : Whole). (λ (made : Bool). Attempts made c.args.i w
+    (record v {
+      threads = joined (set m.threads.items c.args.i c.try_table.new.thread) c.try_table.new.clocks;
+      lock = c.try_table.new.shared.lock;
+      table = c.try_table.new.shared.store;
+      rows = c.try_table.new.shared.rows.items;
+    })) c.try_table.result) view
+    (try_done c.calls_outside.ensures.locks c.locks_and_doors.ensures.numbers v m.threads.items m.clocks
+    c.try_table.new.clocks c.args.i table.0 table.1 x c.try_table.new.thread c.try_table.new.shared.lock
+    c.try_table.new.shared.store c.try_table.new.shared.rows.items (Ok c.try_table.result)
+    (item_of m.threads.items m.clocks c.args.i x c.try_table.new.thread c.try_table.new.clocks m.agree inside
+    c.index_mut.ensures.value c.try_table.ensures.others)
     m.agree turn table.2 c.try_table.ensures.event)
 
 pub index_mut-requires : goal.index_mut-requires
 index_mut-requires c =
     let m = c.self.inside in
-    let v : Whole = whole_by m.settings m.threads.items m.clocks m.shared.lock m.objects.items m.shared.store m.shared.rows.items in
+    let v : Whole = whole_by m.settings m.threads.items m.clocks m.shared.lock m.objects.items m.shared.store
+    m.shared.rows.items in
     let view : v ≡ c.args.self.now = c.self.view_is in
     let inside = inside_of m.threads.items m.clocks v c.args.self.now c.args.i refl view c.requires.inside in
     let size : m.threads.len ≡ length m.threads.items = search rules in
@@ -65,7 +88,8 @@ index_mut-requires c =
 pub try_table-requires-clause-inside : goal.try_table-requires-clause-inside
 try_table-requires-clause-inside c =
     let m = c.self.inside in
-    let v : Whole = whole_by m.settings m.threads.items m.clocks m.shared.lock m.objects.items m.shared.store m.shared.rows.items in
+    let v : Whole = whole_by m.settings m.threads.items m.clocks m.shared.lock m.objects.items m.shared.store
+    m.shared.rows.items in
     let view : v ≡ c.args.self.now = c.self.view_is in
     let inside = inside_of m.threads.items m.clocks v c.args.self.now c.args.i refl view c.requires.inside in
     clock_inside m.threads.items m.clocks c.args.i m.agree inside
@@ -73,21 +97,33 @@ try_table-requires-clause-inside c =
 pub returns-clause-count : goal.returns-clause-count
 returns-clause-count c =
     let m = c.self.inside in
-    let v : Whole = whole_by m.settings m.threads.items m.clocks m.shared.lock m.objects.items m.shared.store m.shared.rows.items in
+    let v : Whole = whole_by m.settings m.threads.items m.clocks m.shared.lock m.objects.items m.shared.store
+    m.shared.rows.items in
     let view : v ≡ c.args.self.now = c.self.view_is in
     let inside = inside_of m.threads.items m.clocks v c.args.self.now c.args.i refl view c.requires.inside in
-    count_kept m.threads.items (set m.threads.items c.args.i c.try_table.new.thread) m.clocks c.try_table.new.clocks v c.args.self.now refl view (length-set m.threads.items c.args.i c.try_table.new.thread)
+    count_kept m.threads.items (set m.threads.items c.args.i c.try_table.new.thread) m.clocks c.try_table.new.clocks v
+    c.args.self.now refl view (length-set m.threads.items c.args.i c.try_table.new.thread)
 
 pub returns-clause-rests : goal.returns-clause-rests
 returns-clause-rests c =
     let m = c.self.inside in
-    let v : Whole = whole_by m.settings m.threads.items m.clocks m.shared.lock m.objects.items m.shared.store m.shared.rows.items in
+    let v : Whole = whole_by m.settings m.threads.items m.clocks m.shared.lock m.objects.items m.shared.store
+    m.shared.rows.items in
     let view : v ≡ c.args.self.now = c.self.view_is in
     let inside = inside_of m.threads.items m.clocks v c.args.self.now c.args.i refl view c.requires.inside in
     let x = c.index_mut.result.now in
-    let item = item_of m.threads.items m.clocks c.args.i x c.try_table.new.thread c.try_table.new.clocks m.agree inside c.index_mut.ensures.value c.try_table.ensures.others in
-    subst (λ (w : Whole). (λ (made : Bool). Rests made w (record v { threads = joined (set m.threads.items c.args.i c.try_table.new.thread) c.try_table.new.clocks; lock = c.try_table.new.shared.lock; table = c.try_table.new.shared.store; rows = c.try_table.new.shared.rows.items })) c.try_table.result) view
-    (try_rests v m.threads.items m.clocks c.try_table.new.clocks c.args.i x c.try_table.new.thread c.try_table.new.shared.lock c.try_table.new.shared.store c.try_table.new.shared.rows.items (Ok c.try_table.result) item c.try_table.ensures.event)
+    let item = item_of m.threads.items m.clocks c.args.i x c.try_table.new.thread c.try_table.new.clocks m.agree inside
+    c.index_mut.ensures.value c.try_table.ensures.others in
+    subst (λ (w : Whole). (λ (made : Bool). Rests made w
+    (record v {
+      threads = joined (set m.threads.items c.args.i c.try_table.new.thread) c.try_table.new.clocks;
+      lock = c.try_table.new.shared.lock;
+      table = c.try_table.new.shared.store;
+      rows = c.try_table.new.shared.rows.items;
+    })) c.try_table.result) view
+    (try_rests v m.threads.items m.clocks c.try_table.new.clocks c.args.i x c.try_table.new.thread
+    c.try_table.new.shared.lock c.try_table.new.shared.store c.try_table.new.shared.rows.items
+    (Ok c.try_table.result) item c.try_table.ensures.event)
 
 pub try_table-requires-clause-few : goal.try_table-requires-clause-few
 try_table-requires-clause-few c =
@@ -96,13 +132,16 @@ try_table-requires-clause-few c =
 pub try_table-requires-clause-row : goal.try_table-requires-clause-row
 try_table-requires-clause-row c =
     let m = c.self.inside in
-    let v : Whole = whole_by m.settings m.threads.items m.clocks m.shared.lock m.objects.items m.shared.store m.shared.rows.items in
+    let v : Whole = whole_by m.settings m.threads.items m.clocks m.shared.lock m.objects.items m.shared.store
+    m.shared.rows.items in
     let inside = inside_of m.threads.items m.clocks v c.args.self.now c.args.i refl c.self.view_is c.requires.inside in
     room_at m.threads.items c.args.i c.index_mut.result.now m.shared.rows inside c.index_mut.ensures.value m.room
 
 pub try_table-requires-clause-decided : goal.try_table-requires-clause-decided
 try_table-requires-clause-decided c =
     let m = c.self.inside in
-    let v : Whole = whole_by m.settings m.threads.items m.clocks m.shared.lock m.objects.items m.shared.store m.shared.rows.items in
+    let v : Whole = whole_by m.settings m.threads.items m.clocks m.shared.lock m.objects.items m.shared.store
+    m.shared.rows.items in
     let inside = inside_of m.threads.items m.clocks v c.args.self.now c.args.i refl c.self.view_is c.requires.inside in
-    waits_at m.threads.items c.args.i c.index_mut.result.now m.shared.lock m.shared.rows.items m.shared.store m.shared.wanted inside c.index_mut.ensures.value m.wanted
+    waits_at m.threads.items c.args.i c.index_mut.result.now m.shared.lock m.shared.rows.items m.shared.store
+    m.shared.wanted inside c.index_mut.ensures.value m.wanted

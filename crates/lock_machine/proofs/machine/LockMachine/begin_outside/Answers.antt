@@ -10,7 +10,9 @@ returns-clause-event c =
     let i = c.args.i in
     let new = c.go_outside.new.self in
     let there : goes_outside (phase_at w i) ≡ true = ap goes_outside (sym c.phase.ensures ∙ c.in-ToOutside.is) in
-    comes_moved (goes_outside (phase_at w i)) c.go_outside.result c.moved.result w new (λ b. AdvancesQuietly b i w new) there c.moved.ensures.made c.moved.ensures.full c.go_outside.ensures.rests c.go_outside.ensures.event
+    comes_moved (goes_outside (phase_at w i)) c.go_outside.result c.moved.result w new (λ b. AdvancesQuietly b i w new)
+    there c.moved.ensures.made c.moved.ensures.full c.go_outside.ensures.rests c.go_outside.ensures.event
 
 pub returns-clause-err : goal.returns-clause-err
-returns-clause-err c = moved_rests c.go_outside.result c.moved.result c.args.self.now c.go_outside.new.self c.moved.ensures.made c.go_outside.ensures.rests
+returns-clause-err c = moved_rests c.go_outside.result c.moved.result c.args.self.now c.go_outside.new.self
+    c.moved.ensures.made c.go_outside.ensures.rests

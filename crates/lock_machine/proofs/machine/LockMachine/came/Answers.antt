@@ -7,7 +7,8 @@ use Rattle.lock_machine.proofs.machine.LockMachine.came.Goals as goal
 pub index-requires : goal.index-requires
 index-requires c =
     let m = c.self.inside in
-    let v : Whole = whole_by m.settings m.threads.items m.clocks m.shared.lock m.objects.items m.shared.store m.shared.rows.items in
+    let v : Whole = whole_by m.settings m.threads.items m.clocks m.shared.lock m.objects.items m.shared.store
+    m.shared.rows.items in
     let view : v ≡ c.args.self.now = c.self.view_is in
     let inside = inside_of m.threads.items m.clocks v c.args.self.now c.args.i refl view c.requires in
     let size : m.threads.len ≡ length m.threads.items = search rules in
@@ -16,7 +17,10 @@ index-requires c =
 pub returns : goal.returns
 returns c =
     let m = c.self.inside in
-    let v : Whole = whole_by m.settings m.threads.items m.clocks m.shared.lock m.objects.items m.shared.store m.shared.rows.items in
+    let v : Whole = whole_by m.settings m.threads.items m.clocks m.shared.lock m.objects.items m.shared.store
+    m.shared.rows.items in
     let view : v ≡ c.args.self.now = c.self.view_is in
     let inside = inside_of m.threads.items m.clocks v c.args.self.now c.args.i refl view c.requires in
-    sym (ap (λ (t : Thread). t.came) (thread_seen m.threads.items m.clocks v c.args.self.now c.args.i c.index.result.now refl view inside c.index.ensures))
+    sym (ap (λ (t : Thread). t.came)
+    (thread_seen m.threads.items m.clocks v c.args.self.now c.args.i c.index.result.now refl view inside
+    c.index.ensures))

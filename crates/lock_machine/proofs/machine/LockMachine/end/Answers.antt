@@ -11,7 +11,9 @@ returns-clause-event c =
     let i = c.args.i in
     let new = c.end_working.new.self in
     let there : works (phase_at w i) ≡ true = search rules in
-    comes_moved (works (phase_at w i)) c.end_working.result c.moved.result w new (λ b. AsksFor b i step.End w new) there c.moved.ensures.made c.moved.ensures.full c.end_working.ensures.rests c.end_working.ensures.event
+    comes_moved (works (phase_at w i)) c.end_working.result c.moved.result w new (λ b. AsksFor b i step.End w new) there
+    c.moved.ensures.made c.moved.ensures.full c.end_working.ensures.rests c.end_working.ensures.event
 
 pub returns-clause-err : goal.returns-clause-err
-returns-clause-err c = moved_rests c.end_working.result c.moved.result c.args.self.now c.end_working.new.self c.moved.ensures.made c.end_working.ensures.rests
+returns-clause-err c = moved_rests c.end_working.result c.moved.result c.args.self.now c.end_working.new.self
+    c.moved.ensures.made c.end_working.ensures.rests

@@ -26,13 +26,19 @@ invariant_of-result-2 c =
     let none : vec_len c.new-4.result ≡ 0 = search rules in (
       ap (map (λ (t : ThreadClock). t.live)) clocks ∙ agree_first count ∙ sym (ap lives threads),
       (
-        subst (λ (n : ℕ). n ≤ limit.THREADS) (sym (ap length threads ∙ length-replicate count first_item)) c.requires.within_limit,
+        subst (λ (n : ℕ). n ≤ limit.THREADS) (sym (ap length threads ∙ length-replicate count first_item))
+            c.requires.within_limit,
         (
           subst (λ (cs : List ThreadClock). BornWithin (2 * time_of cs) c.in_ok-new.field-0) (sym clocks)
-              (subst (λ (t : Stored). BornWithin (2 * time_of (replicate count first_clock)) t) (sym table) (born_first count)),
+              (subst (λ (t : Stored). BornWithin (2 * time_of (replicate count first_clock)) t) (sym table)
+              (born_first count)),
           (
             room_first c.in_ok-first_threads.field-0.items count c.new-4.result threads none,
-            (waits_first c.in_ok-first_threads.field-0.items c.new-2.result c.new-4.result.items c.in_ok-new.field-0 None (ap (λ (l : DetLock). l.holder) c.new-2.ensures), tt),
+            (
+              waits_first c.in_ok-first_threads.field-0.items c.new-2.result c.new-4.result.items c.in_ok-new.field-0
+                  None (ap (λ (l : DetLock). l.holder) c.new-2.ensures),
+              tt,
+            ),
           ),
         ),
       ),

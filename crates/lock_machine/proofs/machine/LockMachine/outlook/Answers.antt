@@ -15,4 +15,5 @@ returns-clause-event c outside stays =
     let is : (thread_at w i).phase ≡ phase.Outside c.in-Outside.outing = sym c.phase.ensures ∙ c.in-Outside.is in
     let seen : c.outlook.result ≡ outlook w i g = search rules in
     let P : Progress → Type 0 = λ p. RecordsGiven p i g w w in
-    subst P (sym seen) (outlook_event c.requests_asked.ensures.little c.arising_states.ensures.rows c.arising_states.ensures.plans w i c.in-Outside.outing g c.requires is (sym (ap has_moved seen) ∙ stays))
+    subst P (sym seen) (outlook_event c.requests_asked.ensures.little c.arising_states.ensures.rows
+    c.arising_states.ensures.plans w i c.in-Outside.outing g c.requires is (sym (ap has_moved seen) ∙ stays))

@@ -10,7 +10,8 @@ use Rattle.lock_machine.proofs.machine.LockMachine.turn_holder.Goals as goal
 pub returns-clause-holder : goal.returns-clause-holder
 returns-clause-holder c =
     let m = c.self.inside in
-    let v : Whole = whole_by m.settings m.threads.items m.clocks m.shared.lock m.objects.items m.shared.store m.shared.rows.items in
+    let v : Whole = whole_by m.settings m.threads.items m.clocks m.shared.lock m.objects.items m.shared.store
+    m.shared.rows.items in
     let view : v ≡ c.args.self.now = c.self.view_is in
     let own : c.turn_holder.result ≡ turn_holder (live_clocks m.clocks) = search rules in
     own ∙ ap turn_holder (clocks_seen m.threads.items m.clocks v c.args.self.now m.agree refl view)
@@ -18,14 +19,18 @@ returns-clause-holder c =
 pub returns-clause-inside : goal.returns-clause-inside
 returns-clause-inside c =
     let m = c.self.inside in
-    let v : Whole = whole_by m.settings m.threads.items m.clocks m.shared.lock m.objects.items m.shared.store m.shared.rows.items in
+    let v : Whole = whole_by m.settings m.threads.items m.clocks m.shared.lock m.objects.items m.shared.store
+    m.shared.rows.items in
     let view : v ≡ c.args.self.now = c.self.view_is in
     let own : c.turn_holder.result ≡ turn_holder (live_clocks m.clocks) = search rules in
     by_holder c.turn_holder.result (sym own)
   where
-    by_holder : (o : Option ℕ) → turn_holder (live_clocks c.self.inside.clocks) ≡ o → IfSome o (λ i. i < length c.args.self.now.threads)
+    by_holder : (o : Option ℕ) → turn_holder (live_clocks c.self.inside.clocks) ≡ o
+        → IfSome o (λ i. i < length c.args.self.now.threads)
     by_holder None h = tt
     by_holder (Some i) h =
         let m = c.self.inside in
-        let v : Whole = whole_by m.settings m.threads.items m.clocks m.shared.lock m.objects.items m.shared.store m.shared.rows.items in
-        subst (λ (n : ℕ). i < n) (length_seen m.threads.items m.clocks v c.args.self.now refl c.self.view_is) (holder_inside m.threads.items m.clocks i m.agree h)
+        let v : Whole = whole_by m.settings m.threads.items m.clocks m.shared.lock m.objects.items m.shared.store
+        m.shared.rows.items in
+        subst (λ (n : ℕ). i < n) (length_seen m.threads.items m.clocks v c.args.self.now refl c.self.view_is)
+        (holder_inside m.threads.items m.clocks i m.agree h)

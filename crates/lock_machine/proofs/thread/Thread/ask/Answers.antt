@@ -4,4 +4,5 @@ use Rattle.lock_machine.proofs.thread.Thread.ask.Goals as goal
 
 pub returns-in-Call-clause-event : goal.returns-in-Call-clause-event
 returns-in-Call-clause-event c =
-    asked_want c.want.result (clock_at c.args.clocks.now c.args.i) c.args.step c.in-Call.call c.args.self.now c.want.new.self c.in-Call.is c.want.ensures.event
+    asked_want c.want.result (clock_at c.args.clocks.now c.args.i) c.args.step c.in-Call.call c.args.self.now
+    c.want.new.self c.in-Call.is c.want.ensures.event
