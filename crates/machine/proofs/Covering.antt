@@ -23,31 +23,40 @@ use Rattle.machine.proofs.Beginning.{outcomes_shown, rising_shown}
 use Rattle.machine.proofs.AskedKinds.{kinds_covered}
 use Rattle.machine.proofs.Clocks.{clocks_shown}
 
-pub covered : (D : Type 0) (m : Shown D) → IsKept D m → CameIsRows → DatedOfArisen → LegalOfArisen → AskTheirKind → IsCovered D m
+pub covered : (D : Type 0) (m : Shown D) → IsKept D m → CameIsRows → DatedOfArisen → LegalOfArisen → AskTheirKind
+    → IsCovered D m
 covered D m h law dated_law legal_law kinds_law =
     record {
       header = h.header;
       sound = h.sound;
       failed = h.failed;
       outcomes = λ i.
-          ap (map (λ (g : Given). g.outcome)) (sym (h.came i)) ∙ map-map (λ (g : Given). g.outcome) (as_logged m.whole.settings.version) (thread_of h.end i).came
-          ∙ ap (map (λ (g : Given). g.outcome)) (law (setup_under (terms_with m.whole (own h.end))) (length m.whole.threads) limit.OBJECTS first_world h.end h.ends.0 i)
+          ap (map (λ (g : Given). g.outcome)) (sym (h.came i))
+          ∙ map-map (λ (g : Given). g.outcome) (as_logged m.whole.settings.version) (thread_of h.end i).came
+          ∙ ap (map (λ (g : Given). g.outcome))
+          (law (setup_under (terms_with m.whole (own h.end))) (length m.whole.threads) limit.OBJECTS first_world
+          h.end h.ends.0 i)
           ∙ outcomes_shown i h.end.rows
           ∙ ap (outcomes_in i) h.ends.1.rows;
       clocks = λ i.
           let setup = setup_under (terms_with m.whole (own h.end)) in
           let version = m.whole.settings.version in
           let clock : Given → Option ℕ = λ g. if version == 2 then g.clock else None in
-          ap (map (λ (g : Given). g.clock)) (sym (h.came i)) ∙ map-map (λ (g : Given). g.clock) (as_logged version) (thread_of h.end i).came
+          ap (map (λ (g : Given). g.clock)) (sym (h.came i))
+          ∙ map-map (λ (g : Given). g.clock) (as_logged version) (thread_of h.end i).came
           ∙ ap (map clock) (law setup (length m.whole.threads) limit.OBJECTS first_world h.end h.ends.0 i)
-          ∙ clocks_shown version i h.end.rows (dated_law setup (length m.whole.threads) limit.OBJECTS first_world h.end h.ends.0)
+          ∙ clocks_shown version i h.end.rows
+          (dated_law setup (length m.whole.threads) limit.OBJECTS first_world h.end h.ends.0)
           ∙ ap (clocks_in version i) h.ends.1.rows;
       kinds = kinds_covered D m h law legal_law kinds_law;
     }
 
 pub legal : (D : Type 0) (m : Shown D) → IsKept D m → RealLegalOfArisen → IsLegal (settings_in m.whole) m.whole.rows
-legal D m h law = subst (IsLegal (settings_in m.whole)) h.ends.1.rows (law (settings_in m.whole) (own h.end) (length m.whole.threads) h.end h.ends.0)
+legal D m h law = subst (IsLegal (settings_in m.whole)) h.ends.1.rows
+    (law (settings_in m.whole) (own h.end) (length m.whole.threads) h.end h.ends.0)
 
 pub rises : (D : Type 0) (m : Shown D) → IsKept D m → RisingOfArisen → AreRising m.whole.rows
 rises D m h law =
-    subst AreRising h.ends.1.rows (rising_shown h.end.rows (law (setup_under (terms_with m.whole (own h.end))) (length m.whole.threads) limit.OBJECTS first_world h.end h.ends.0))
+    subst AreRising h.ends.1.rows (rising_shown h.end.rows
+    (law (setup_under (terms_with m.whole (own h.end))) (length m.whole.threads) limit.OBJECTS first_world h.end
+    h.ends.0))

@@ -1,5 +1,6 @@
 -- Who holds the lock of a door's number, and what the number is that of.
-use Rattle.std.proofs.Common.{◌≡◌, ◌⊎◌, ℕ, ◌<◌, ◌==◌, ◌||◌, ℤ, pos, not, length, Option, Some, None, Ok, inl, inr, Bool, true, false, is_some, sym, refl, ap, ap₂, ◌∙◌, subst, arith}
+use Rattle.std.proofs.Common.{◌≡◌, ◌⊎◌, ℕ, ◌<◌, ◌==◌, ◌||◌, ℤ, pos, not, length, Option, Some, None, Ok, inl, inr, Bool}
+use Rattle.std.proofs.Common.{true, false, is_some, sym, refl, ap, ap₂, ◌∙◌, subst, arith}
 use Rattle.std.proofs.lemmas.Bool.{false≢true, true≢false}
 use Rattle.std.proofs.lemmas.Bool.Decides.{nat_tests}
 use Rattle.std.proofs.lemmas.Option.{none-some, same_Some}
@@ -20,7 +21,8 @@ use Rattle.sequential_object.specs.Answers.{numbered}
 use Rattle.lock_model.specs.Runs.{own}
 use Rattle.lock_model.specs.State as lock
 use Rattle.lock_model.specs.State.{Job, object_of, thread_of}
-use Rattle.lock_model.specs.State.Phase.{Blocked, Ended, Granted, Outside, Recorded, ToOutside, WantsObject, WantsTable, Working}
+use Rattle.lock_model.specs.State.Phase.{Blocked, Ended, Granted, Outside, Recorded, ToOutside, WantsObject, WantsTable}
+use Rattle.lock_model.specs.State.Phase.{Working}
 use Rattle.sequential_object.specs.Worlds.{World}
 use Rattle.descriptor_table.specs.Shows.{is_of}
 use Rattle.call_turns.specs.Errands.{TakesLocked, door_taken, object_found}
@@ -48,7 +50,8 @@ use Rattle.posix_terms.specs.declared.transcript.Settings.{Settings}
 use Rattle.machine.specs.Doors.{brings_back}
 use Rattle.machine.specs.DoorsThere.{HaveOne, Names, door_of, is_listener, job_out}
 use Rattle.machine.specs.Runs.{IsEnd, terms_with}
-use Rattle.machine.proofs.DoorCalls.{GoesOut, IsDoorAt, a_listener, close_leaves, closes_free, door_at, goes_out, no_listener, stays_free}
+use Rattle.machine.proofs.DoorCalls.{GoesOut, IsDoorAt, a_listener, close_leaves, closes_free, door_at, goes_out}
+use Rattle.machine.proofs.DoorCalls.{no_listener, stays_free}
 use Rattle.machine.proofs.Naming.{IsNumbered, names_back, names_gone, names_own, number_slot}
 use Rattle.machine.proofs.NoNewDoors.{AddsNone, step_adds_none}
 
@@ -74,10 +77,14 @@ way_keeps : (keeps : Bool) (n : ℕ) → plan_keeps (Object n (way_of true keeps
 way_keeps true n = refl
 way_keeps false n = refl
 
-held_out : (p : lock.Phase) (job : Job) → job_out p ≡ Some job → (object_held p ≡ object_in job.plan) × (holds_table p ≡ table_held_by (Some job))
-held_out (ToOutside x) job h = let same : x ≡ job = same_Some x job h in (ap (λ (j : Job). object_in j.plan) same, ap (λ (j : Job). table_held_by (Some j)) same)
-held_out (Outside x) job h = let same : x ≡ job = same_Some x job h in (ap (λ (j : Job). object_in j.plan) same, ap (λ (j : Job). table_held_by (Some j)) same)
-held_out (Recorded x) job h = let same : x ≡ job = same_Some x job h in (ap (λ (j : Job). object_in j.plan) same, ap (λ (j : Job). table_held_by (Some j)) same)
+held_out : (p : lock.Phase) (job : Job) → job_out p ≡ Some job → (object_held p ≡ object_in job.plan)
+    × (holds_table p ≡ table_held_by (Some job))
+held_out (ToOutside x) job h = let same : x ≡ job = same_Some x job h in
+    (ap (λ (j : Job). object_in j.plan) same, ap (λ (j : Job). table_held_by (Some j)) same)
+held_out (Outside x) job h = let same : x ≡ job = same_Some x job h in
+    (ap (λ (j : Job). object_in j.plan) same, ap (λ (j : Job). table_held_by (Some j)) same)
+held_out (Recorded x) job h = let same : x ≡ job = same_Some x job h in
+    (ap (λ (j : Job). object_in j.plan) same, ap (λ (j : Job). table_held_by (Some j)) same)
 held_out Working job h = absurd (none-some job h)
 held_out (WantsTable c b) job h = absurd (none-some job h)
 held_out (WantsObject c b clock n way) job h = absurd (none-some job h)
@@ -86,14 +93,20 @@ held_out (Blocked c b) job h = absurd (none-some job h)
 held_out Ended job h = absurd (none-some job h)
 
 -- that of a thread of a machine
-out_shown : (w : Whole) (s : lock.State) (i : ℕ) (p : Phase) (u : lock.Thread) (job : Job) → PhaseShows (terms_with w (own s)) i s.rows (thread_at w i) u p → job_out u.phase ≡ Some job → (o : Outing) × IsOut (terms_with w (own s)) i s.rows o job
+out_shown : (w : Whole) (s : lock.State) (i : ℕ) (p : Phase) (u : lock.Thread) (job : Job)
+    → PhaseShows (terms_with w (own s)) i s.rows (thread_at w i) u p → job_out u.phase ≡ Some job → (o : Outing)
+    × IsOut (terms_with w (own s)) i s.rows o job
 out_shown w s i phase.Working u job h is = absurd (none-some job (sym (ap job_out h) ∙ is))
 out_shown w s i (phase.WantsTable call carried) u job h is = absurd (none-some job (sym (ap job_out h) ∙ is))
-out_shown w s i (phase.WantsObject call carried clock object) u job h is = absurd (none-some job (sym (ap job_out h.1.0) ∙ is))
+out_shown w s i (phase.WantsObject call carried clock object) u job h is =
+    absurd (none-some job (sym (ap job_out h.1.0) ∙ is))
 out_shown w s i (phase.Granted place object ends) u job h is = absurd (none-some job (sym (ap job_out h.1.0) ∙ is))
-out_shown w s i (phase.ToOutside o) u job h is = (o, subst (IsOut (terms_with w (own s)) i s.rows o) (same_Some h.0 job (sym (ap job_out h.1.0) ∙ is)) h.1.1)
-out_shown w s i (phase.Outside o) u job h is = (o, subst (IsOut (terms_with w (own s)) i s.rows o) (same_Some h.0 job (sym (ap job_out h.1.0) ∙ is)) h.1.1)
-out_shown w s i (phase.Recorded o) u job h is = (o, subst (IsOut (terms_with w (own s)) i s.rows o) (same_Some h.0 job (sym (ap job_out h.1.0) ∙ is)) h.1.1)
+out_shown w s i (phase.ToOutside o) u job h is =
+    (o, subst (IsOut (terms_with w (own s)) i s.rows o) (same_Some h.0 job (sym (ap job_out h.1.0) ∙ is)) h.1.1)
+out_shown w s i (phase.Outside o) u job h is =
+    (o, subst (IsOut (terms_with w (own s)) i s.rows o) (same_Some h.0 job (sym (ap job_out h.1.0) ∙ is)) h.1.1)
+out_shown w s i (phase.Recorded o) u job h is =
+    (o, subst (IsOut (terms_with w (own s)) i s.rows o) (same_Some h.0 job (sym (ap job_out h.1.0) ∙ is)) h.1.1)
 out_shown w s i (phase.Blocked carried) u job h is = absurd (none-some job (sym (ap job_out h.1) ∙ is))
 out_shown w s i phase.Ended u job h is = absurd (none-some job (sym (ap job_out h) ∙ is))
 
@@ -108,7 +121,8 @@ in_of_out (Granted x) job h = absurd (none-some job h)
 in_of_out (Blocked c b) job h = absurd (none-some job h)
 in_of_out Ended job h = absurd (none-some job h)
 
-pub out_at : (w : Whole) (s : lock.State) (i : ℕ) (job : Job) → TakesLocked → HavePlans (real_calls (settings_in w)) s → IsEnd w s → job_out (thread_of s i).phase ≡ Some job → OutAt s i job
+pub out_at : (w : Whole) (s : lock.State) (i : ℕ) (job : Job) → TakesLocked → HavePlans (real_calls (settings_in w)) s
+    → IsEnd w s → job_out (thread_of s i).phase ≡ Some job → OutAt s i job
 out_at w s i job takes plans h is =
     let z = out_shown w s i (thread_at w i).phase (thread_of s i) job (h.1.threads i).phase is in
     let o = z.0 in
@@ -116,7 +130,9 @@ out_at w s i job takes plans h is =
     let held = held_out (thread_of s i).phase job is in
     let found = plans.found i job (in_of_out (thread_of s i).phase job is) in
     let locked : numbered job.found (locked_object job.found.object job.call job.carried) ≡ Some out.object =
-    sym (plan_number (way_of (is_some (asks job.found.object job.call job.carried)) (keeps_table job.call)) (numbered job.found (locked_object job.found.object job.call job.carried))) ∙ ap object_in (sym found ∙ out.plan) in
+    sym (plan_number (way_of (is_some (asks job.found.object job.call job.carried)) (keeps_table job.call))
+    (numbered job.found (locked_object job.found.object job.call job.carried)))
+    ∙ ap object_in (sym found ∙ out.plan) in
     record {
       number = out.object;
       object = ap object_in out.plan;
@@ -139,29 +155,38 @@ one_holder : (o : Option ℕ) (i j : ℕ) → is_number o i ≡ true → is_numb
 one_holder None i j a b = absurd (false≢true a)
 one_holder (Some k) i j a b = grind (arith, nat_tests, a, b)
 
-pub holds_object : (s : lock.State) (i n : ℕ) (job : Job) → AreHeld s → length s.objects ≡ limit.OBJECTS → OutAt s i job → object_in job.plan ≡ Some n → is_number (object_of s n).holder i ≡ true
+pub holds_object : (s : lock.State) (i n : ℕ) (job : Job) → AreHeld s → length s.objects ≡ limit.OBJECTS → OutAt s i job
+    → object_in job.plan ≡ Some n → is_number (object_of s n).holder i ≡ true
 holds_object s i n job held count out at =
     let same : out.number ≡ n = same_Some out.number n (sym out.object ∙ at) in
-    let within : n < length s.objects = subst (λ (m : ℕ). n < m) (sym count) (subst (λ (m : ℕ). m < limit.OBJECTS) same out.within) in
+    let within : n < length s.objects =
+    subst (λ (m : ℕ). n < m) (sym count) (subst (λ (m : ℕ). m < limit.OBJECTS) same out.within) in
     held.objects i n within ∙ ap (λ (o : Option ℕ). is_number o n) (out.held ∙ at) ∙ own_number n
 
-pub one_object : (s : lock.State) (i j n : ℕ) → is_number (object_of s n).holder i ≡ true → is_number (object_of s n).holder j ≡ true → i ≡ j
+pub one_object : (s : lock.State) (i j n : ℕ) → is_number (object_of s n).holder i ≡ true
+    → is_number (object_of s n).holder j ≡ true → i ≡ j
 one_object s i j n a b = one_holder (object_of s n).holder i j a b
 
-pub holds_kept : (s : lock.State) (i : ℕ) (job : Job) → AreHeld s → OutAt s i job → keeps_table job.call ≡ true → is_number s.table.holder i ≡ true
-holds_kept s i job held out keeps = held.table i ∙ out.table ∙ ap₂ (λ (a b : Bool). not a || b) out.has (out.keeps ∙ keeps)
+pub holds_kept : (s : lock.State) (i : ℕ) (job : Job) → AreHeld s → OutAt s i job → keeps_table job.call ≡ true
+    → is_number s.table.holder i ≡ true
+holds_kept s i job held out keeps = held.table i ∙ out.table
+    ∙ ap₂ (λ (a b : Bool). not a || b) out.has (out.keeps ∙ keeps)
 
-pub one_table : (s : lock.State) (i j : ℕ) → is_number s.table.holder i ≡ true → is_number s.table.holder j ≡ true → i ≡ j
+pub one_table : (s : lock.State) (i j : ℕ) → is_number s.table.holder i ≡ true → is_number s.table.holder j ≡ true
+    → i ≡ j
 one_table s i j a b = one_holder s.table.holder i j a b
 
 -- ## What the number is that of
 
-pub number_taken : (w : World) (o : Option ℕ) (n : ℕ) → numbered w o ≡ Some n → (k : ℕ) × ((o ≡ Some k) × (number_of w k ≡ n))
+pub number_taken : (w : World) (o : Option ℕ) (n : ℕ) → numbered w o ≡ Some n → (k : ℕ)
+    × ((o ≡ Some k) × (number_of w k ≡ n))
 number_taken w (Some k) n h = (k, (refl, same_Some (number_of w k) n h))
 number_taken w None n h = absurd (none-some n h)
 
 -- the door of a description
-door_of_seen : (w : World) (descriptor : ℤ) (at : Seen) (k : ℕ) → Shows w.object → IsNumbered w → (let v = seen w.object in v.described descriptor ≡ Ok at) → at.object ≡ k → leads_outside at.«end» ≡ true → IsDoorAt w.object at.«end» k
+door_of_seen : (w : World) (descriptor : ℤ) (at : Seen) (k : ℕ) → Shows w.object → IsNumbered w
+    → (let v = seen w.object in v.described descriptor ≡ Ok at) → at.object ≡ k → leads_outside at.«end» ≡ true
+    → IsDoorAt w.object at.«end» k
 door_of_seen w descriptor at k known num found own outside =
     let z = known.described descriptor at found in
     let e = z.description in
@@ -172,13 +197,18 @@ door_of_seen w descriptor at k known num found own outside =
     outside
 
 -- the object that a call locks which frees the table is that whose door it takes along
-taken_is : (s : State) (c : Call) (carried : Carried) (object k : ℕ) (does : Deed) → TakesLocked → keeps_table c ≡ false → decided (seen s) c carried.moved ≡ Ok (decision.Locks object does) → door_taken s c carried ≡ Some k → object ≡ k
+taken_is : (s : State) (c : Call) (carried : Carried) (object k : ℕ) (does : Deed) → TakesLocked → keeps_table c ≡ false
+    → decided (seen s) c carried.moved ≡ Ok (decision.Locks object does) → door_taken s c carried ≡ Some k → object ≡ k
 unfolding locked_object
-taken_is s c carried object k does takes frees is at = same_Some object k (sym (ap locks_of is) ∙ sym (takes s c carried frees) ∙ at)
+taken_is s c carried object k does takes frees is at =
+    same_Some object k (sym (ap locks_of is) ∙ sym (takes s c carried frees) ∙ at)
 
 -- a call that frees the table takes along a door that is there
-pub frees_names : (w : World) (c : Call) (carried : Carried) (r : Query) (n : ℕ) → DecidedSo → TakesLocked → IsNumbered w → keeps_table c ≡ false → asks w.object c carried ≡ Some r → numbered w (door_taken w.object c carried) ≡ Some n
-    → (k : ℕ) × (d : Door) × ((door_taken w.object c carried ≡ Some k) × ((number_of w k ≡ n) × (fin.get w.object.objects k ≡ Some (DoorTo d))))
+pub frees_names : (w : World) (c : Call) (carried : Carried) (r : Query) (n : ℕ) → DecidedSo → TakesLocked
+    → IsNumbered w → keeps_table c ≡ false → asks w.object c carried ≡ Some r
+    → numbered w (door_taken w.object c carried) ≡ Some n
+    → (k : ℕ) × (d : Door) × ((door_taken w.object c carried ≡ Some k)
+    × ((number_of w k ≡ n) × (fin.get w.object.objects k ≡ Some (DoorTo d))))
 frees_names w c carried r n law takes num frees asked at = by_way (goes_out law w.object c carried r asked).1
   where
     z : (k : ℕ) × ((door_taken w.object c carried ≡ Some k) × (number_of w k ≡ n))
@@ -187,17 +217,24 @@ frees_names w c carried r n law takes num frees asked at = by_way (goes_out law 
     known : Shows w.object
     known = law.shows w.object
 
-    by_door : (which : End) (object : ℕ) → object ≡ z.0 → IsDoorAt w.object which object → (k : ℕ) × (d : Door) × ((door_taken w.object c carried ≡ Some k) × ((number_of w k ≡ n) × (fin.get w.object.objects k ≡ Some (DoorTo d))))
-    by_door which object same door = (z.0, door.door, (z.1.0, (z.1.1, ap (fin.get w.object.objects) (sym same) ∙ door.there)))
+    by_door : (which : End) (object : ℕ) → object ≡ z.0 → IsDoorAt w.object which object → (k : ℕ) × (d : Door)
+        × ((door_taken w.object c carried ≡ Some k)
+        × ((number_of w k ≡ n) × (fin.get w.object.objects k ≡ Some (DoorTo d))))
+    by_door which object same door =
+        (z.0, door.door, (z.1.0, (z.1.1, ap (fin.get w.object.objects) (sym same) ∙ door.there)))
 
-    by_way : GoesOut (seen w.object) c (decided (seen w.object) c carried.moved) → (k : ℕ) × (d : Door) × ((door_taken w.object c carried ≡ Some k) × ((number_of w k ≡ n) × (fin.get w.object.objects k ≡ Some (DoorTo d))))
+    by_way : GoesOut (seen w.object) c (decided (seen w.object) c carried.moved) → (k : ℕ) × (d : Door)
+        × ((door_taken w.object c carried ≡ Some k)
+        × ((number_of w k ≡ n) × (fin.get w.object.objects k ≡ Some (DoorTo d))))
     by_way (inl a) =
         let its = a.door in
-        by_door its.at.«end» a.object (taken_is w.object c carried a.object z.0 (deed.Asks a.blocks) takes frees a.is z.1.0)
+        by_door its.at.«end» a.object (taken_is w.object c carried a.object z.0 (deed.Asks a.blocks) takes frees a.is
+        z.1.0)
         (door_of_seen w its.found.descriptor its.at a.object known num its.found.found its.object_is its.outside)
     by_way (inr (inl a)) =
         let its = a.last in
-        by_door its.at.«end» a.object (taken_is w.object c carried a.object z.0 (deed.Closes a.number a.key) takes frees a.is z.1.0)
+        by_door its.at.«end» a.object (taken_is w.object c carried a.object z.0 (deed.Closes a.number a.key) takes frees
+        a.is z.1.0)
         (door_of_seen w (pos a.number) its.at a.object known num its.found its.object_is its.outside)
     by_way (inr (inr a)) = let opens = a.opens in absurd (true≢false (sym opens.keeps ∙ frees))
 
@@ -207,19 +244,25 @@ listener_of door.HostFile is = absurd (false≢true is)
 listener_of door.Stream is = absurd (false≢true is)
 
 -- one that accepts takes along a listener
-accepts_at : (w : World) (descriptor : ℤ) (listener : Option ℕ) (k : ℕ) → Shows w.object → IsNumbered w → IsListener (seen w.object) descriptor listener → object_found (described w.object descriptor) ≡ Some k → (port : ℕ) × (fin.get w.object.objects k ≡ Some (DoorTo (door.Listener port)))
+accepts_at : (w : World) (descriptor : ℤ) (listener : Option ℕ) (k : ℕ) → Shows w.object → IsNumbered w
+    → IsListener (seen w.object) descriptor listener → object_found (described w.object descriptor) ≡ Some k
+    → (port : ℕ) × (fin.get w.object.objects k ≡ Some (DoorTo (door.Listener port)))
 accepts_at w descriptor listener k known num its taken =
     let z = known.described descriptor its.at its.found in
-    let same : (let e = z.description in e.object) ≡ k = same_Some (let e = z.description in e.object) k (sym (ap object_found z.found) ∙ taken) in
+    let same : (let e = z.description in e.object)
+    ≡ k = same_Some (let e = z.description in e.object) k (sym (ap object_found z.found) ∙ taken) in
     let door = door_of_seen w descriptor its.at k known num its.found (sym z.object_is ∙ same) its.outside in
     let l = listener_of door.door (sym door.alike ∙ a_listener its.at.«end» its.listens) in
     (l.0, door.there ∙ ap (λ (d : Door). Some (DoorTo d)) l.1)
 
 -- one that keeps the table takes along a listener, or none
-pub keeps_names : (w : World) (c : Call) (carried : Carried) (r : Query) (n : ℕ) → DecidedSo → IsNumbered w → keeps_table c ≡ true → asks w.object c carried ≡ Some r → numbered w (door_taken w.object c carried) ≡ Some n → (port : ℕ) × Names w n (door.Listener port)
+pub keeps_names : (w : World) (c : Call) (carried : Carried) (r : Query) (n : ℕ) → DecidedSo → IsNumbered w
+    → keeps_table c ≡ true → asks w.object c carried ≡ Some r → numbered w (door_taken w.object c carried) ≡ Some n
+    → (port : ℕ) × Names w n (door.Listener port)
 keeps_names w c carried r n law num keeps asked at = by_way (goes_out law w.object c carried r asked).1
   where
-    by_call : (c : Call) (listener : Option ℕ) (new : NewDescriptor) → IsOpening (seen w.object) c listener new → numbered w (door_taken w.object c carried) ≡ Some n → (port : ℕ) × Names w n (door.Listener port)
+    by_call : (c : Call) (listener : Option ℕ) (new : NewDescriptor) → IsOpening (seen w.object) c listener new
+        → numbered w (door_taken w.object c carried) ≡ Some n → (port : ℕ) × Names w n (door.Listener port)
     by_call (call.HostOpen path access flags) listener new opens at = absurd (none-some n at)
     by_call (call.TcpListen port) listener new opens at = absurd (none-some n at)
     by_call (call.TcpConnect port) listener new opens at = absurd (none-some n at)
@@ -229,7 +272,8 @@ keeps_names w c carried r n law num keeps asked at = by_way (goes_out law w.obje
         (p.0, subst (λ (m : ℕ). Names w m (door.Listener p.0)) z.1.1 (names_own w z.0 (door.Listener p.0) num p.1))
     by_call c listener new opens at = absurd (false≢true opens.keeps)
 
-    by_way : GoesOut (seen w.object) c (decided (seen w.object) c carried.moved) → (port : ℕ) × Names w n (door.Listener port)
+    by_way : GoesOut (seen w.object) c (decided (seen w.object) c carried.moved) → (port : ℕ)
+        × Names w n (door.Listener port)
     by_way (inl a) = absurd (true≢false (sym keeps ∙ stays_free c a.stays))
     by_way (inr (inl a)) = absurd (true≢false (sym keeps ∙ closes_free c a.closes))
     by_way (inr (inr a)) = by_call c a.listener a.new a.opens at
@@ -247,8 +291,12 @@ same_door_to : (a b : Door) → Some (DoorTo a) ≡ Some (DoorTo b) → a ≡ b
 same_door_to a b h = cc
 
 -- its door's number is that of no listener after it, nor of any door where it closes
-pub granted_apart : (settings : Settings) (w : World) (c : Call) (carried : Carried) (r : Query) (n k : ℕ) (e d : Door) → DecidedSo → TakesLocked → IsNumbered w → HaveOne w.object → asks w.object c carried ≡ Some r → door_taken w.object c carried ≡ Some k → number_of w k ≡ n
-    → keeps_table c ≡ false → fin.get w.object.objects k ≡ Some (DoorTo e) → (let stepped : Stepped = step settings w.object c None carried in Names (world_with w stepped.after) n d) → (is_listener d ≡ false) × (brings_back r.kind ≡ true)
+pub granted_apart : (settings : Settings) (w : World) (c : Call) (carried : Carried) (r : Query) (n k : ℕ) (e d : Door)
+    → DecidedSo → TakesLocked → IsNumbered w → HaveOne w.object → asks w.object c carried ≡ Some r
+    → door_taken w.object c carried ≡ Some k → number_of w k ≡ n
+    → keeps_table c ≡ false → fin.get w.object.objects k ≡ Some (DoorTo e)
+    → (let stepped : Stepped = step settings w.object c None carried in Names (world_with w stepped.after) n d)
+    → (is_listener d ≡ false) × (brings_back r.kind ≡ true)
 granted_apart settings w c carried r n k e d law takes num one asked taken number frees at named = by_way went.1
   where
     went : (r.kind ≡ request_kind c) × GoesOut (seen w.object) c (decided (seen w.object) c carried.moved)
@@ -272,17 +320,20 @@ granted_apart settings w c carried r n k e d law takes num one asked taken numbe
         let back = names_back w after n d num adds named in
         ap (fin.get w.object.objects) (same_Some k back.0 (sym slot ∙ back.1.0)) ∙ back.1.1
 
-    by_way : GoesOut (seen w.object) c (decided (seen w.object) c carried.moved) → (is_listener d ≡ false) × (brings_back r.kind ≡ true)
+    by_way : GoesOut (seen w.object) c (decided (seen w.object) c carried.moved) → (is_listener d ≡ false)
+        × (brings_back r.kind ≡ true)
     by_way (inl a) =
         let its = a.door in
         let same : a.object ≡ k = taken_is w.object c carried a.object k (deed.Asks a.blocks) takes frees a.is taken in
-        let door = door_of_seen w its.found.descriptor its.at k known num its.found.found (its.object_is ∙ same) its.outside in
+        let door = door_of_seen w its.found.descriptor its.at k known num its.found.found (its.object_is ∙ same)
+        its.outside in
         let own : door.door ≡ d = same_door_to door.door d (sym door.there ∙ own_door) in (
           ap is_listener (sym own) ∙ sym door.alike ∙ no_listener its.at.«end» its.carries,
           ap brings_back went.0 ∙ comes_back c a.stays,
         )
     by_way (inr (inl a)) =
-        let same : a.object ≡ k = taken_is w.object c carried a.object k (deed.Closes a.number a.key) takes frees a.is taken in
+        let same : a.object ≡ k = taken_is w.object c carried a.object k (deed.Closes a.number a.key) takes frees a.is
+        taken in
         let gone : fin.get after.objects k ≡ None =
         subst (λ (m : ℕ). fin.get after.objects m ≡ None) same
         (close_leaves settings w.object c carried e known num.plain one a (ap (fin.get w.object.objects) same ∙ at)) in

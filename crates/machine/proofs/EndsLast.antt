@@ -1,6 +1,7 @@
--- The last step that a thread asked is its end just where it has ended.
+-- The last step that a thread asked is its end exactly when it has ended.
 use Rattle.posix_terms.specs.Outcomes.{dated}
-use Rattle.std.proofs.Common.{◌≡◌, ℕ, zero, suc, ◌-◌, ◌<◌, List, [], ◌∷◌, ◌++◌, length, get_or, replicate, slice_get, Option, Some, None, Bool, true, false, sym, refl, ap, ◌∙◌, subst, ⊎_elim, arith}
+use Rattle.std.proofs.Common.{◌≡◌, ℕ, zero, suc, ◌-◌, ◌<◌, List, [], ◌∷◌, ◌++◌, length, get_or, replicate, slice_get}
+use Rattle.std.proofs.Common.{Option, Some, None, Bool, true, false, sym, refl, ap, ◌∙◌, subst, ⊎_elim, arith}
 use Rattle.std.proofs.lemmas.Bool.{cases_eq, false≢true}
 use Rattle.std.proofs.lemmas.Option.{none-some}
 use Rattle.lock_machine.specs.Conditions.{setup_under}
@@ -22,7 +23,8 @@ use Rattle.sequential_object.specs.Numbers.{first_world}
 use Rattle.lock_model.specs.Runs.{Arises, own, run, supplied}
 use Rattle.lock_model.specs.State as lock
 use Rattle.lock_model.specs.State.{State, nobody, start, thread_of}
-use Rattle.lock_model.specs.State.Phase.{Blocked, Ended, Granted, Outside, Recorded, ToOutside, WantsObject, WantsTable, Working}
+use Rattle.lock_model.specs.State.Phase.{Blocked, Ended, Granted, Outside, Recorded, ToOutside, WantsObject, WantsTable}
+use Rattle.lock_model.specs.State.Phase.{Working}
 use Rattle.sequential_object.specs.Worlds.{World}
 use Rattle.posix_terms.specs.Calls.{Call}
 use Rattle.posix_terms.specs.declared.limits.TheConstants.Limits as limit
@@ -64,18 +66,28 @@ answered_live : (t : lock.Thread) (c : Call) (clock : ℕ) (a : TurnEnd) → is_
 answered_live t c clock (turn_end.Reply r) = refl
 answered_live t c clock (turn_end.Blocked b) = refl
 
-step_last : (setup : Setup) (t u : lock.Thread) (x : Step) → u ≡ after_step setup.calls t x → u.phase ≡ Ended → has_end u.asked ≡ true
+step_last : (setup : Setup) (t u : lock.Thread) (x : Step) → u ≡ after_step setup.calls t x → u.phase ≡ Ended
+    → has_end u.asked ≡ true
 step_last setup t u (step.Work n) is ended = not_over Working refl (ap (λ (v : lock.Thread). v.phase) (sym is) ∙ ended)
-step_last setup t u (step.Call c) is ended = not_over (WantsTable c setup.calls.nothing_carried) refl (ap (λ (v : lock.Thread). v.phase) (sym is) ∙ ended)
-step_last setup t u step.End is ended = ap (λ (v : lock.Thread). has_end v.asked) is ∙ ap is_end (last_is t.asked step.End)
+step_last setup t u (step.Call c) is ended = not_over (WantsTable c setup.calls.nothing_carried) refl
+    (ap (λ (v : lock.Thread). v.phase) (sym is) ∙ ended)
+step_last setup t u step.End is ended = ap (λ (v : lock.Thread). has_end v.asked) is
+    ∙ ap is_end (last_is t.asked step.End)
 
-moved_last : (setup : Setup) (i : ℕ) (t u : lock.Thread) → IsMoved setup i t u → u.phase ≡ Ended → has_end u.asked ≡ true
+moved_last : (setup : Setup) (i : ℕ) (t u : lock.Thread) → IsMoved setup i t u → u.phase ≡ Ended
+    → has_end u.asked ≡ true
 moved_last setup i t u (AsksStep x there next is) ended = step_last setup t u x is ended
-moved_last setup i t u (GoesOut job there is) ended = not_over (Outside job) refl (ap (λ (v : lock.Thread). v.phase) (sym is) ∙ ended)
-moved_last setup i t u (GetsOutcome job o there next fits is) ended = not_over (Recorded (record job { outcome = Some (dated job.turn o) })) refl (ap (λ (v : lock.Thread). v.phase) (sym is) ∙ ended)
-moved_last setup i t u (AnswersGranted job there is) ended = not_over u.phase (ap (λ (v : lock.Thread). is_over v.phase) is ∙ answered_live t job.call _ _) ended
-moved_last setup i t u (AnswersRecorded job there is) ended = not_over u.phase (ap (λ (v : lock.Thread). is_over v.phase) is ∙ answered_live t job.call _ _) ended
-moved_last setup i t u (MakesAgain c b there is) ended = not_over (WantsTable c b) refl (ap (λ (v : lock.Thread). v.phase) (sym is) ∙ ended)
+moved_last setup i t u (GoesOut job there is) ended =
+    not_over (Outside job) refl (ap (λ (v : lock.Thread). v.phase) (sym is) ∙ ended)
+moved_last setup i t u (GetsOutcome job o there next fits is) ended =
+    not_over (Recorded (record job { outcome = Some (dated job.turn o) })) refl
+    (ap (λ (v : lock.Thread). v.phase) (sym is) ∙ ended)
+moved_last setup i t u (AnswersGranted job there is) ended =
+    not_over u.phase (ap (λ (v : lock.Thread). is_over v.phase) is ∙ answered_live t job.call _ _) ended
+moved_last setup i t u (AnswersRecorded job there is) ended =
+    not_over u.phase (ap (λ (v : lock.Thread). is_over v.phase) is ∙ answered_live t job.call _ _) ended
+moved_last setup i t u (MakesAgain c b there is) ended =
+    not_over (WantsTable c b) refl (ap (λ (v : lock.Thread). v.phase) (sym is) ∙ ended)
 
 in_call : {A : Type 0} (p : lock.Phase) → IsIn p ≡ true → p ≡ Ended → A
 in_call p there ended = absurd (false≢true (ap IsIn (sym ended) ∙ there))
@@ -84,19 +96,25 @@ stays_last : (s z : State) (i : ℕ) → z ≡ s → EndedLast s i → EndedLast
 stays_last s z i same h = subst (λ (x : State). EndedLast x i) (sym same) h
 
 -- by the event of its own
-own_last : EventLaws → (setup : Setup) (s : State) (e : Event) → EndedLast s (thread_in e) → EndedLast (happens setup e s) (thread_in e)
+own_last : EventLaws → (setup : Setup) (s : State) (e : Event) → EndedLast s (thread_in e)
+    → EndedLast (happens setup e s) (thread_in e)
 own_last laws setup s (Advances i) h = by_test (can_advance setup s i) refl
   where
     by_test : (b : Bool) → can_advance setup s i ≡ b → EndedLast (happens setup (Advances i) s) i
-    by_test true can inside ended = moved_last setup i (thread_of s i) (thread_of (happens setup (Advances i) s) i) (laws.moved setup s i can) ended
-    by_test false can inside ended = stays_last s (happens setup (Advances i) s) i (laws.not_allowed setup (Advances i) s can) h inside ended
+    by_test true can inside ended = moved_last setup i (thread_of s i) (thread_of (happens setup (Advances i) s) i)
+        (laws.moved setup s i can) ended
+    by_test false can inside ended =
+        stays_last s (happens setup (Advances i) s) i (laws.not_allowed setup (Advances i) s can) h inside ended
 own_last laws setup s (Attempts i) h = by_test (can_attempt setup s i) refl
   where
     by_test : (b : Bool) → can_attempt setup s i ≡ b → EndedLast (happens setup (Attempts i) s) i
-    by_test true can inside ended = in_call (thread_of (happens setup (Attempts i) s) i).phase (laws.tried setup s i can).after ended
-    by_test false can inside ended = stays_last s (happens setup (Attempts i) s) i (laws.not_allowed setup (Attempts i) s can) h inside ended
+    by_test true can inside ended = in_call (thread_of (happens setup (Attempts i) s) i).phase
+        (laws.tried setup s i can).after ended
+    by_test false can inside ended =
+        stays_last s (happens setup (Attempts i) s) i (laws.not_allowed setup (Attempts i) s can) h inside ended
 
-event_last : EventLaws → (setup : Setup) (s : State) (e : Event) (i : ℕ) → EndedLast s i → EndedLast (happens setup e s) i
+event_last : EventLaws → (setup : Setup) (s : State) (e : Event) (i : ℕ) → EndedLast s i
+    → EndedLast (happens setup e s) i
 event_last laws setup s e i h = ⊎_elim same apart (cases_eq (thread_in e) i)
   where
     same : thread_in e ≡ i → EndedLast (happens setup e s) i
@@ -106,9 +124,11 @@ event_last laws setup s e i h = ⊎_elim same apart (cases_eq (thread_in e) i)
     apart other inside ended =
         let stays = laws.others setup s e i other in
         let there : i < length s.threads = subst (λ (n : ℕ). i < n) (laws.count setup s e) inside in
-        ap (λ (t : lock.Thread). has_end t.asked) stays ∙ h there (ap (λ (t : lock.Thread). t.phase) (sym stays) ∙ ended)
+        ap (λ (t : lock.Thread). has_end t.asked) stays
+        ∙ h there (ap (λ (t : lock.Thread). t.phase) (sym stays) ∙ ended)
 
-run_last : EventLaws → (setup : Setup) (events : List Event) (s : State) (i : ℕ) → EndedLast s i → EndedLast (run setup events s) i
+run_last : EventLaws → (setup : Setup) (events : List Event) (s : State) (i : ℕ) → EndedLast s i
+    → EndedLast (run setup events s) i
 run_last laws setup [] s i h = h
 run_last laws setup (e ∷ es) s i h = run_last laws setup es (happens setup e s) i (event_last laws setup s e i h)
 
@@ -116,16 +136,19 @@ abbrev first : lock.Thread
 first = record { phase = Working; clock = 1; asked = []; replies = []; came = [] }
 
 start_last : (threads objects : ℕ) (w : World) (i : ℕ) → EndedLast (start threads objects w) i
-start_last threads objects w i inside ended = not_over Working refl (ap (λ (t : lock.Thread). t.phase) (sym (get_first threads i inside)) ∙ ended)
+start_last threads objects w i inside ended =
+    not_over Working refl (ap (λ (t : lock.Thread). t.phase) (sym (get_first threads i inside)) ∙ ended)
   where
     get_first : (n i : ℕ) → i < length (replicate n first) → get_or (replicate n first) i nobody ≡ first
     get_first zero i l = absurd (omega arith)
     get_first (suc n) zero l = refl
     get_first (suc n) (suc i) l = get_first n i (omega arith)
 
-arisen_last : EventLaws → (setup : Setup) (threads objects : ℕ) (w : World) (s : State) → Arises setup (start threads objects w) s → (i : ℕ) → EndedLast s i
+arisen_last : EventLaws → (setup : Setup) (threads objects : ℕ) (w : World) (s : State)
+    → Arises setup (start threads objects w) s → (i : ℕ) → EndedLast s i
 arisen_last laws setup threads objects w s h i =
-    subst (λ (z : State). EndedLast z i) h.ends (run_last laws (supplied setup (own s)) h.events (start threads objects w) i (start_last threads objects w i))
+    subst (λ (z : State). EndedLast z i) h.ends
+    (run_last laws (supplied setup (own s)) h.events (start threads objects w) i (start_last threads objects w i))
 
 -- ## What a machine shows
 
@@ -135,7 +158,8 @@ unended (Some (step.Work n)) c h = refl
 unended (Some step.End) c h = absurd (none-some c h)
 unended None c h = refl
 
-asked_by : (u : lock.Thread) (p : lock.Phase) → u.phase ≡ p → HasAsked u → (u.phase ≡ Ended → has_end u.asked ≡ true) → has_end u.asked ≡ is_over p
+asked_by : (u : lock.Thread) (p : lock.Phase) → u.phase ≡ p → HasAsked u → (u.phase ≡ Ended → has_end u.asked ≡ true)
+    → has_end u.asked ≡ is_over p
 asked_by u Working is h ended = h.works is
 asked_by u (WantsTable c b) is h ended = unended (last_step u.asked) c (h.call c (ap call_in is))
 asked_by u (WantsObject c b clock n way) is h ended = unended (last_step u.asked) c (h.call c (ap call_in is))
@@ -146,7 +170,8 @@ asked_by u (Recorded job) is h ended = unended (last_step u.asked) job.call (h.c
 asked_by u (Blocked c b) is h ended = unended (last_step u.asked) c (h.call c (ap call_in is))
 asked_by u Ended is h ended = ended is
 
-over_shown : (w : Whole) (s : State) (i : ℕ) (t : Thread) (u : lock.Thread) (p : Phase) → PhaseShows (terms_with w (own s)) i s.rows t u p → is_over u.phase ≡ is_ended p
+over_shown : (w : Whole) (s : State) (i : ℕ) (t : Thread) (u : lock.Thread) (p : Phase)
+    → PhaseShows (terms_with w (own s)) i s.rows t u p → is_over u.phase ≡ is_ended p
 over_shown w s i t u phase.Working h = ap is_over h
 over_shown w s i t u (phase.WantsTable call carried) h = ap is_over h
 over_shown w s i t u (phase.WantsObject call carried clock object) h = ap is_over h.1.0
@@ -157,7 +182,9 @@ over_shown w s i t u (phase.Recorded o) h = ap is_over h.1.0
 over_shown w s i t u (phase.Blocked carried) h = ap is_over h.1
 over_shown w s i t u phase.Ended h = ap is_over h
 
-pub ends_last : (D : Type 0) (m : Shown D) → IsKept D m → StepsOfArisen → EventLaws → (i : ℕ) → i < length m.whole.threads → has_end (let t : Thread = thread_at m.whole i in t.asked) ≡ is_ended (phase_at m.whole i)
+pub ends_last : (D : Type 0) (m : Shown D) → IsKept D m → StepsOfArisen → EventLaws → (i : ℕ)
+    → i < length m.whole.threads → has_end (let t : Thread = thread_at m.whole i in t.asked)
+    ≡ is_ended (phase_at m.whole i)
 ends_last D m h steps laws i inside =
     let w = m.whole in
     let s = h.end in
@@ -166,4 +193,5 @@ ends_last D m h steps laws i inside =
     let there : i < length s.threads = subst (λ (n : ℕ). i < n) (sym h.ends.1.count) inside in
     let asked = steps setup (length w.threads) limit.OBJECTS first_world s h.ends.0 i in
     let ended = arisen_last laws setup (length w.threads) limit.OBJECTS first_world s h.ends.0 i there in
-    ap has_end (sym (h.ends.1.threads i).asked) ∙ asked_by u u.phase refl asked ended ∙ over_shown w s i (thread_at w i) u (phase_at w i) (h.ends.1.threads i).phase
+    ap has_end (sym (h.ends.1.threads i).asked) ∙ asked_by u u.phase refl asked ended
+    ∙ over_shown w s i (thread_at w i) u (phase_at w i) (h.ends.1.threads i).phase

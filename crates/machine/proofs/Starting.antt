@@ -1,6 +1,7 @@
 -- A machine at its start.
 use Rattle.machine.specs.Records.{as_logged}
-use Rattle.std.proofs.Common.{◌≡◌, ℕ, zero, suc, arith, ◌<◌, ◌≤◌, [], get_or, replicate, Option, None, true, sym, refl, ap, subst, ⊎_elim, map}
+use Rattle.std.proofs.Common.{◌≡◌, ℕ, zero, suc, arith, ◌<◌, ◌≤◌, [], get_or, replicate, Option, None, true, sym, refl}
+use Rattle.std.proofs.Common.{ap, subst, ⊎_elim, map}
 use Rattle.std.proofs.lemmas.Bool.{cases_lt}
 use Rattle.std.proofs.lemmas.List.{append-nil, get_or_past, length-replicate}
 use Rattle.input_log.specs.Format.{header_text}
@@ -31,7 +32,9 @@ first_came : (n i : ℕ) → (let t = get_or (replicate n new_thread) i nobody i
 first_came n i =
     ⊎_elim
     (λ (l : i < n). ap (λ (t : lock.Thread). t.came) (get_replicate n i l))
-    (λ (l : n ≤ i). ap (λ (t : lock.Thread). t.came) (get_or_past (replicate n new_thread) i nobody (subst (λ (m : ℕ). m ≤ i) (sym (length-replicate n new_thread)) l)))
+    (λ (l : n ≤ i). ap (λ (t : lock.Thread). t.came)
+    (get_or_past (replicate n new_thread) i nobody
+    (subst (λ (m : ℕ). m ≤ i) (sym (length-replicate n new_thread)) l)))
     (cases_lt i n)
   where
     get_replicate : (n i : ℕ) → i < n → get_or (replicate n new_thread) i nobody ≡ new_thread
@@ -42,18 +45,24 @@ first_came n i =
 first_header : (settings : Settings) (n : ℕ) → header_for settings n ≡ header_of (first_whole settings n)
 first_header settings n = ap (header_for settings) (sym (length-replicate n first_thread))
 
-first_ends : (settings : Settings) (n : ℕ) → ArisesAtStart → ShowsAtStart → IsEnd (first_whole settings n) (real_start n)
+first_ends : (settings : Settings) (n : ℕ) → ArisesAtStart → ShowsAtStart
+    → IsEnd (first_whole settings n) (real_start n)
 first_ends settings n arises shows =
     let terms : ℕ → Conditions = λ m. record { threads = m; settings = settings; supply = own (real_start n) } in
     let P : ℕ → Type 0 = λ m. StandsAt (first_whole settings n) (terms m) (real_start n) in
-    subst P (sym (length-replicate n first_thread)) (arises (setup_under (terms n)) n limit.OBJECTS first_world, shows (terms n))
+    subst P (sym (length-replicate n first_thread))
+    (arises (setup_under (terms n)) n limit.OBJECTS first_world, shows (terms n))
 
 -- a writer that has written a header and nothing else
 begun_sound : (h : Header) → in_range h ≡ true → IsSound (begun h)
-begun_sound h range = record { log = record { range = range; each_good = tt }; bytes = (refl, sym (append-nil (header_text h))) }
+begun_sound h range = record {
+  log = record { range = range; each_good = tt };
+  bytes = (refl, sym (append-nil (header_text h)));
+}
 
 -- with the header of its threads in the log, and nothing else
-pub first_kept : (D : Type 0) (settings : Settings) (n : ℕ) → ArisesAtStart → ShowsAtStart → in_range (header_for settings n) ≡ true → IsKept D (first_shown settings n)
+pub first_kept : (D : Type 0) (settings : Settings) (n : ℕ) → ArisesAtStart → ShowsAtStart
+    → in_range (header_for settings n) ≡ true → IsKept D (first_shown settings n)
 first_kept D settings n arises shows range =
     record {
       end = real_start n;

@@ -24,6 +24,7 @@ pub record RowAgrees (row other : HistoryRow) : Type 0 where
   pub answer : Agrees row.answer other.answer
   pub closed : is_none row.answer ≡ false → other ≡ row
 
+-- these rows agree, one by one, with the first of the others
 abbrev pub IsBeginning : List HistoryRow → List HistoryRow → Type 0
 IsBeginning [] others = Unit {0}
 IsBeginning (row ∷ rows) [] = ⊥
@@ -48,7 +49,7 @@ pub record IsAllOf (D : Type 0) (m : Shown D) (last : State) : Type 0 where
   pub answers : (i : ℕ) → answers_in i m.whole.rows ≡ answers_in i (map shown last.rows)
   pub transcripts : (i : ℕ) → transcript_of i m.whole.rows ≡ transcript_of i (map shown last.rows)
 
--- last is where the plain run ends of just those steps, under just those outcomes, and what the
+-- last is where the plain run ends of exactly those steps, under those outcomes, and what the
 -- machine shows is a beginning of what that has
 pub record BeginsPlainRun (D : Type 0) (m : Shown D) : Type 0 where
   pub last : State

@@ -12,7 +12,7 @@ use Rattle.machine.specs.Kept.{header_of, is_sink}
 use Rattle.machine.specs.Records.{outcomes_of}
 use Rattle.machine.specs.Shown.{Shown}
 
--- the kind of what a call asks outside, where its outcome came, before those of the rows behind it
+-- the kind of what a call asks outside, where its outcome came, before those of the rows after it
 abbrev pub kind_before : Option OutKind → Option Outcome → List (Option OutKind)
     → List (Option OutKind)
 kind_before k (Some outcome) kinds = k ∷ kinds
@@ -27,8 +27,8 @@ kinds_in thread (row ∷ rows) =
     else kinds_in thread rows
 
 -- what stands in the sink is the log's header with a record for each outcome, in the order in which
--- they came; there is more only behind a failure of the sink, a part of one further item. Thread by
--- thread, records and rows tell of the same outcomes, a record's kind is that of what the call of
+-- they came; there is more only after a failure of the sink, a part of one further item. Thread by
+-- thread, records and rows have the same outcomes, a record's kind is that of what the call of
 -- its row asks outside, and in version 2 its clock is that of its row's turn
 pub record IsCovered (D : Type 0) (m : Shown D) : Type 0 where
   pub header : m.log.header ≡ header_of m.whole

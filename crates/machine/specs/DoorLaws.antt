@@ -6,6 +6,7 @@ use Rattle.lock_model.specs.Laws.{LocksOfArisen, PlansOfArisen}
 use Rattle.call_turns.specs.Errands.{LocksNext, TakesLocked}
 use Rattle.sequential_object.specs.So.{DecidedSo}
 
+-- the laws of locks, plans, events and requests by which each event keeps each door there
 pub record DoorLaws : Type 0 where
   pub locks : LocksOfArisen
   pub plans : PlansOfArisen

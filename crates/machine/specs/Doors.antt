@@ -1,6 +1,7 @@
 -- Believed: a contract of the headline stands on it.
 -- The doors of a machine, by object number.
-use Rattle.std.specs.Prelude.{◌≡◌, ℕ, Bool, true, false, not, ◌&&◌, List, Option, Some, None, is_some, get_or, set, Result, Ok, Err}
+use Rattle.std.specs.Prelude.{◌≡◌, ℕ, Bool, true, false, not, ◌&&◌, List, Option, Some, None}
+use Rattle.std.specs.Prelude.{is_some, get_or, set, Result, Ok, Err}
 use Rattle.descriptor_table.specs.declared.plan.Errand.{Errand}
 use Rattle.lock_machine.specs.declared.thread.Outing.{Outing}
 use Rattle.lock_machine.specs.declared.thread.Phase.{Phase}
@@ -34,6 +35,7 @@ doors_after doors o old new = put (put doors o.errand.door old) o.object new
 
 -- ## What goes with an outcome
 
+-- the outcome is a success
 abbrev pub is_ok : Outcome → Bool
 is_ok (outcome.Ok value bytes) = true
 is_ok (outcome.Fail error) = false
@@ -60,6 +62,7 @@ opens_door out.Connect = true
 opens_door out.Accept = true
 opens_door k = false
 
+-- the second holds exactly when the first does
 abbrev pub just_where : Bool → Bool → Bool
 just_where true b = b
 just_where false b = not b
@@ -83,7 +86,7 @@ abbrev pub taken_along : Phase → Option ℕ
 taken_along (phase.ToOutside o) = o.errand.door
 taken_along p = None
 
--- a door goes out just where the request is of a kind for which one does
+-- a door goes out exactly when the request is of a kind for which one does
 abbrev pub GoesAlong : {D : Type 0} → Option D → Phase → Type 0
 GoesAlong door (phase.ToOutside o) = is_some door ≡ takes_along o.errand.kind
 GoesAlong door p = Unit {0}

@@ -1,6 +1,7 @@
 -- Believed: a contract of the headline stands on it.
 -- Which doors a machine has: whenever one goes out, it is there.
-use Rattle.std.specs.Prelude.{◌≡◌, ℕ, Bool, true, false, List, Option, Some, None, get_or, is_some, slice_index_or}
+use Rattle.std.specs.Prelude.{◌≡◌, ℕ, Bool, true, false, List, Option, Some, None, get_or, is_some}
+use Rattle.std.specs.Prelude.{slice_index_or}
 use Rattle.std.specs.FinMap as fin
 use Rattle.lock_model.specs.Held.{object_in}
 use Rattle.sequential_object.specs.Answers.{numbered, outcome_in}
@@ -39,6 +40,7 @@ HaveOne s = (q r : ℕ) (e f : Description) (d : Door) → fin.get s.description
 abbrev pub is_there : {D : Type 0} → List (Option D) → ℕ → Bool
 is_there doors n = is_some (get_or doors n None)
 
+-- the door is a listener
 abbrev pub is_listener : Door → Bool
 is_listener (door.Listener port) = true
 is_listener d = false
@@ -50,6 +52,7 @@ job_out (Outside job) = Some job
 job_out (Recorded job) = Some job
 job_out p = None
 
+-- there is a request, and it is of a kind for which the door comes back
 abbrev pub comes_back_of : Option Query → Bool
 comes_back_of (Some r) = brings_back r.kind
 comes_back_of None = false
@@ -58,10 +61,12 @@ comes_back_of None = false
 abbrev pub comes_back : Job → Bool
 comes_back job = comes_back_of (asks job.found.object job.call job.carried)
 
+-- an outcome came, and it is a success
 abbrev pub is_success : Option Outcome → Bool
 is_success (Some x) = is_ok x
 is_success None = false
 
+-- in this state each door that a call needs is there when the call goes outside
 pub record DoorsThere (D : Type 0) (s : lock.State) (doors : List (Option D)) : Type 0 where
   -- each door has its place, and where none stands there a thread is outside with it
   pub objects : (n : ℕ) (d : Door) → Names s.world n d → is_there doors n ≡ false

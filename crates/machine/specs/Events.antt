@@ -38,7 +38,7 @@ refusal_of calls_refused.WrongPhase = refused.WrongPhase
 refusal_of calls_refused.ClockFull = refused.ClockFull
 refusal_of calls_refused.Memory = refused.Memory
 
--- what the lock machine answers, as the machine tells it
+-- what the lock machine answers, as the machine returns it
 abbrev pub told_of : {A : Type 0} → Result A calls.LockRefused → Result A Refused
 told_of (Ok a) = Ok a
 told_of (Err e) = Err (refusal_of e)
@@ -62,7 +62,7 @@ Comes right c e (Err refused.Memory) old new =
     (old.stop ≡ None) × (right ≡ true) × IsPermitted c e old.whole × (new ≡ old)
 Comes right c e (Err refused.Sink) old new = ⊥
 
--- an event that wants no memory is not refused for the lack of it
+-- an event that takes no memory is not refused for the lack of it
 abbrev pub WantsNone : {A : Type 0} → Result A Refused → Type 0
 WantsNone (Ok a) = Unit {0}
 WantsNone (Err (refused.Stopped cause)) = Unit {0}
@@ -119,6 +119,7 @@ pub record FailsAtSink (D : Type 0) (i : ℕ) (o : Outing) (outcome : Outcome) (
   pub fails : FailsInside (record_text (record_for old.whole i o outcome)) old.log new.log
   pub rest : new ≡ record old { log = new.log; stop = Some stop.Sink }
 
+-- the machine refused to record an outcome of thread i, and why
 abbrev pub Refuses : {D : Type 0} → ℕ → Outcome → Refused → Shown D → Shown D → Type 0
 Refuses i outcome (refused.Stopped cause) old new = (old.stop ≡ Some cause) × (new ≡ old)
 Refuses i outcome refused.WrongPhase old new =
@@ -145,6 +146,7 @@ Tells a i w = (s : State) → IsEnd w s
 
 -- ## `stop`
 
+-- the machine is stopped for this cause now, or refuses, since it was stopped before
 abbrev pub Stops : {D : Type 0} → Stop → Result (Unit {0}) Refused → Shown D → Shown D → Type 0
 Stops cause (Ok done) old new = (old.stop ≡ None) × (new ≡ record old { stop = Some cause })
 Stops cause (Err (refused.Stopped first)) old new = (old.stop ≡ Some first) × (new ≡ old)

@@ -9,8 +9,10 @@ use Rattle.machine.specs.History.{AreRising}
 use Rattle.machine.specs.Kept.{IsKept}
 use Rattle.machine.specs.Shown.{Shown}
 
+-- a machine is faithful: its history is legal, its turns rise, its log covers the history, and the
+-- history begins that of the plain run
 pub record IsFaithful (D : Type 0) (m : Shown D) : Type 0 where
-  -- a run leads to it, of just the steps that were asked and the outcomes that were recorded
+  -- a run leads to it, of the very steps that were asked and outcomes that were recorded
   pub kept : IsKept D m
   -- the sequential object, given the calls of the rows in this order, gives each answer
   pub legal : IsLegal (settings_in m.whole) m.whole.rows

@@ -1,6 +1,7 @@
 -- Believed: a contract of the headline stands on it.
 -- What is true of a history, and what one thread sees of it.
-use Rattle.std.specs.Prelude.{◌≡◌, ℕ, zero, suc, List, [], ◌∷◌, ◌++◌, Option, Some, None, true, if◌then◌else◌, ◌==◌}
+use Rattle.std.specs.Prelude.{◌≡◌, ℕ, zero, suc, List, [], ◌∷◌, ◌++◌, Option, Some, None, true}
+use Rattle.std.specs.Prelude.{if◌then◌else◌, ◌==◌}
 use Rattle.posix_terms.specs.declared.outcome.Outcome.{Outcome}
 use Rattle.posix_terms.specs.declared.reply.Answer.{Answer}
 use Rattle.posix_terms.specs.declared.reply.Answer.TheVariants as answer
@@ -22,7 +23,7 @@ rows_of thread (row ∷ rows) =
     if row.turn.thread == thread then row ∷ rows_of thread rows
     else rows_of thread rows
 
--- what a row replied, before what the rows behind it did
+-- what a row replied, before what the rows after it did
 abbrev pub reply_before : HistoryRow → Option Answer → List Row → List Row
 reply_before row (Some (answer.Reply reply)) rows =
     record { call = row.call; turn = row.turn; reply = reply } ∷ rows
@@ -41,7 +42,7 @@ abbrev pub transcripts_of : ℕ → List HistoryRow → List (List Row)
 transcripts_of zero rows = []
 transcripts_of (suc n) rows = transcripts_of n rows ++ transcript_of n rows ∷ []
 
--- the outcome of a row, if it came, before those of the rows behind it
+-- the outcome of a row, if it came, before those of the rows after it
 abbrev pub outcome_before : Option Outcome → List Outcome → List Outcome
 outcome_before (Some outcome) outcomes = outcome ∷ outcomes
 outcome_before None outcomes = outcomes
@@ -70,7 +71,7 @@ clocks_in version thread (row ∷ rows) =
     then clock_before (clock_told version row) row.outcome (clocks_in version thread rows)
     else clocks_in version thread rows
 
--- the answer of a row, if it was given, before those of the rows behind it
+-- the answer of a row, if it was given, before those of the rows after it
 abbrev pub answer_before : Option Answer → List Answer → List Answer
 answer_before (Some a) answers = a ∷ answers
 answer_before None answers = answers
@@ -82,6 +83,7 @@ answers_in thread (row ∷ rows) =
     if row.turn.thread == thread then answer_before row.answer (answers_in thread rows)
     else answers_in thread rows
 
+-- the turn comes before those of all these rows
 abbrev pub IsBeforeAll : Turn → List HistoryRow → Type 0
 IsBeforeAll turn [] = Unit {0}
 IsBeforeAll turn (row ∷ rows) = (is_before turn row.turn ≡ true) × IsBeforeAll turn rows

@@ -18,15 +18,17 @@ use Rattle.machine.specs.declared.stop.Stop.TheVariants as stop
 abbrev pub header_of : Whole → Header
 header_of w = header_for (settings_in w) (length w.threads)
 
+-- the machine is stopped because its sink failed
 abbrev pub is_sink : Option Stop → Bool
 is_sink (Some stop.Sink) = true
 is_sink o = false
 
+-- the run stopped because its threads strayed
 abbrev pub is_strayed : Option Stop → Bool
 is_strayed (Some stop.Strayed) = true
 is_strayed o = false
 
--- a sink failed just where this is why its machine was stopped, and then once; and no machine
+-- a sink failed exactly when this is why its machine was stopped, and then once; and no machine
 -- itself finds that threads strayed
 pub record StopsFor (failures : ℕ) (stopped : Option Stop) : Type 0 where
   pub sink : failures ≡ (if is_sink stopped then 1 else 0)

@@ -8,7 +8,8 @@ use Rattle.lock_model.specs.Runs.{Keeps}
 use Rattle.lock_model.specs.State.{Row}
 use Rattle.lock_model.specs.Transcripts as seen
 use Rattle.machine.specs.History.{clocks_in}
-use Rattle.std.specs.Prelude.{◌≡◌, ℕ, ◌<◌, ◌≤◌, true, List, [], ◌∷◌, ◌++◌, length, map, None, if◌then◌else◌, ◌==◌, ◌^◌}
+use Rattle.std.specs.Prelude.{◌≡◌, ℕ, ◌<◌, ◌≤◌, true, List, [], ◌∷◌, ◌++◌, length, map, None}
+use Rattle.std.specs.Prelude.{if◌then◌else◌, ◌==◌, ◌^◌}
 use Rattle.input_log.specs.Grammar.{IsGood, number_of, is_version}
 use Rattle.input_log.specs.declared.log.Header.{Header}
 use Rattle.input_log.specs.declared.log.Record.{Record}
@@ -19,6 +20,7 @@ use Rattle.posix_terms.specs.declared.outcome.Given.{Given}
 use Rattle.posix_terms.specs.declared.outcome.OutKind.{OutKind}
 use Rattle.machine.specs.Records.{as_logged, outcomes_of, record_of}
 
+-- the laws of the records of a log, and of the outcomes that they have
 pub record RecordLaws : Type 0 where
   -- the outcomes of one list of records come before those of the next
   pub append : (i : ℕ) (xs ys : List Record)
@@ -34,7 +36,7 @@ pub record RecordLaws : Type 0 where
   -- a log of version 2 has all of it
   pub whole : (version : ℕ) (came : List Given) → (version == 2) ≡ true
       → map (as_logged version) came ≡ came
-  -- kinds that are told to be one are one
+  -- kinds that are said to be one are one
   pub kinds : (a b : OutKind) → is_kind a b ≡ true → a ≡ b
   -- an outcome that fits what was asked may be recorded after those before it, with the clock of
   -- its turn in version 2, where that turn comes after theirs

@@ -21,6 +21,7 @@ out_of (phase.ToOutside o) = Some o
 out_of (phase.Outside o) = Some o
 out_of p = None
 
+-- what a thread that is outside asked for there
 abbrev pub awaited : Phase → Option Errand
 awaited (phase.Outside o) = Some o.errand
 awaited p = None

@@ -36,6 +36,7 @@ supply_with Nothing s = own s
 supply_with (Asks x) s = record (own s) { next = λ i asked replies. Some x }
 supply_with (Brings g) s = record (own s) { outcomes = λ i. (thread_of s i).came ++ g ∷ [] }
 
+-- the setup of the run that led to a machine, with what comes to it next
 abbrev pub setup_with : Whole → Coming → State → Setup
 setup_with w c s = setup_under (terms_with w (supply_with c s))
 

@@ -16,10 +16,14 @@ use posix_terms::{PackedRow, Step};
 impl<S: LogSink, D: Drop> Machine<S, D> {
     /// The granted turns so far, in their order, each with its outcome once it came and its answer once it was given.
     ///
-    /// At any time the machine is faithful to them, as it is behind each event (`faithful`). It is the end of a run of just the steps that were
-    /// asked and the outcomes that were recorded (`kept`). This history is legal: the sequential object, given the calls in this order, gives each
-    /// answer (`legal`). Its turns rise (`rising`). The bytes that the log's writer handed to its sink cover it, kinds too (`covered`). And what
-    /// each thread saw is a beginning of what it sees in the plain run of those steps and outcomes, and so are all rows together; once all threads
+    /// At any time the machine is faithful to them, as it is after each event
+    /// (`faithful`). It is the end of a run of just the steps that were
+    /// asked and the outcomes that were recorded (`kept`). This history is legal:
+    /// the sequential object, given the calls in this order, gives each
+    /// answer (`legal`). Its turns rise (`rising`). The bytes that the log's writer
+    /// handed to its sink cover it, kinds too (`covered`). And what
+    /// each thread saw is a beginning of what it sees in the plain run of those
+    /// steps and outcomes, and so are all rows together; once all threads
     /// have ended it is all of it (`begins`).
     pub fn history(&self) -> &[PackedRow]
         ensures rows { result.now ≡ self.now.whole.rows }
@@ -43,7 +47,7 @@ impl<S: LogSink, D: Drop> Machine<S, D> {
         requests_asked();
     }
 
-    /// The steps that thread i asked, in order. `End` is the last just where the thread has ended.
+    /// The steps that thread i asked, in order. `End` is the last exactly when the thread has ended.
     pub fn asked(&self, i: usize) -> &[Step]
         requires { i < length self.now.whole.threads }
         ensures steps { result.now ≡ (thread_at self.now.whole i).asked }

@@ -4,11 +4,11 @@
 //! A [`Machine`] is made for 1 to 16 threads, over a writer that has written their header and
 //! nothing more; then any driver may make its events, in any order, by the `phase` of each thread.
 //! An outcome is in the log before it is the machine's, so no reply is given before its record was
-//! taken whole. Behind each event the machine is faithful: its `history` is legal, its turns rise,
-//! and what the writer wrote covers it. An event that cannot be made is [`Refused`]: where memory
-//! is wanted nothing has changed, and where the log's writer failed the machine is stopped.
-//! `record` asks for an outcome that answers, which `takes` tests. `finish` gives what is left, the
-//! sink and the history among it.
+//! taken whole. After each event the machine is faithful: its `history` is legal, its turns rise,
+//! and what the writer wrote covers it. An event that cannot be made is [`Refused`]: out of memory
+//! nothing has changed, and where the log's writer failed the machine is stopped. `record` requires
+//! an outcome that answers the request, which `takes` tests. `finish` returns what is left, with
+//! the sink and the history.
 //!
 //! ```rust
 //! use input_log::MemorySink;

@@ -1,4 +1,5 @@
-ghost use Rattle.std.specs.Prelude.{◌≡◌, ◌<◌, ◌≤◌, true, IfOk, IfErr, IfSome, None, length, replicate};
+ghost use Rattle.std.specs.Prelude.{◌≡◌, ◌<◌, ◌≤◌, true, IfOk, IfErr, IfSome, None, length};
+ghost use Rattle.std.specs.Prelude.{replicate};
 ghost use Rattle.input_log.specs.Grammar.{in_range};
 ghost use Rattle.input_log.specs.Writing.{begun};
 ghost use Rattle.logical_clocks.specs.TurnOrder.{has_turn, turn_holder};
@@ -19,9 +20,9 @@ use posix_terms::{Limits, PackedRow, Settings, Step};
 use std::alloc::{AllocError, Global};
 use std::marker::Model;
 
-/// Threads that share one table of descriptors, with the writer of their log and their doors to the outside. Any driver may make its events, in
-/// any order. Contracts see the threads with their locks, the table and the rows; what the writer wrote; the doors by the numbers of
-/// their objects; and why the machine was stopped.
+/// Threads that share one table of descriptors, with the writer of their log and their doors to the outside. Any
+/// driver may make its events, in any order. Contracts see the threads with their locks, the table and the rows; what
+/// the writer wrote; the doors by the numbers of their objects; and why the machine was stopped.
 #[derive(Drop)]
 pub struct Machine<S: LogSink, D: Drop> {
     pub(crate) calls: LockMachine,
@@ -41,14 +42,20 @@ impl<S: LogSink, D: Drop> Model for Machine<S, D> {
 
     ghost coded = { Prim.hlevel (codes, stored_code) };
 
-    ghost view = { λ m. record { whole = m.calls; log = m.log; doors = m.doors.items; stop = m.stop } };
+    ghost view = { λ m. record {
+      whole = m.calls;
+      log = m.log;
+      doors = m.doors.items;
+      stop = m.stop;
+    } };
 
-    ghost invariant = { λ m. IsKept D (record { whole = m.calls; log = m.log; doors = m.doors.items; stop = m.stop }) };
+    ghost invariant = { λ m. IsKept D
+        (record { whole = m.calls; log = m.log; doors = m.doors.items; stop = m.stop }) };
 }
 
 impl<S: LogSink, D: Drop> Machine<S, D> {
-    /// So many threads, over a table with nothing open and only the root. The writer has written their header and nothing more; where there is
-    /// no memory it is handed back.
+    /// So many threads, over a table with nothing open and only the root. The writer has written their header and
+    /// nothing more; where there is no memory it is handed back.
     pub fn new(
         alloc: Global,
         threads: usize,
@@ -75,7 +82,8 @@ impl<S: LogSink, D: Drop> Machine<S, D> {
         }
     }
 
-    /// Why the machine is stopped, if it is. Its sink failed just where the cause is `Sink`; and the cause is never `Strayed`.
+    /// Why the machine is stopped, if it is. Its sink failed exactly when the cause is `Sink`; and the cause is never
+    /// `Strayed`.
     pub fn stopped(&self) -> Option<Stop>
         ensures stop { result ≡ self.now.stop }
         ensures cause { StopsFor self.now.log.failures result }
@@ -100,18 +108,20 @@ impl<S: LogSink, D: Drop> Machine<S, D> {
         self.calls.len()
     }
 
-    /// Where thread i is between its events. Whichever run leads to the machine, this shows the phase that the thread has at its end (`shown`).
+    /// Where thread i is between its events. Whichever run leads to the machine, this shows the phase that the thread
+    /// has at its end (`shown`).
     pub fn phase(&self, i: usize) -> &Phase
         requires { i < length self.now.whole.threads }
         ensures phase { result.now ≡ (thread_at self.now.whole i).phase }
-        ensures shown { (s : State) → IsEnd self.now.whole s → ShowsPhase result.now (thread_of s i).phase }
+        ensures shown { (s : State) → IsEnd self.now.whole s
+            → ShowsPhase result.now (thread_of s i).phase }
     {
         machines_show();
         self.calls.phase(i)
     }
 
-    /// Whether thread i has the turn. An attempt without it is refused. It is the turn of the definition, at the end of whichever run leads to the
-    /// machine (`shown`).
+    /// Whether thread i has the turn. An attempt without it is refused. It is the turn of the definition, at the end of
+    /// whichever run leads to the machine (`shown`).
     pub fn has_turn(&self, i: usize) -> bool
         requires { i < length self.now.whole.threads }
         ensures turn { result ≡ has_turn (clocks_of self.now.whole.threads) i }
@@ -125,7 +135,8 @@ impl<S: LogSink, D: Drop> Machine<S, D> {
     pub fn turn_holder(&self) -> Option<usize>
         ensures holder { result ≡ turn_holder (clocks_of self.now.whole.threads) }
         ensures inside { IfSome result (λ i. i < length self.now.whole.threads) }
-        ensures shown { (s : State) → IsEnd self.now.whole s → result ≡ turn_holder (live_clocks s) }
+        ensures shown { (s : State) → IsEnd self.now.whole s
+            → result ≡ turn_holder (live_clocks s) }
     {
         machines_show();
         self.calls.turn_holder()

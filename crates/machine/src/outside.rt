@@ -13,7 +13,8 @@ use std::alloc::AllocError;
 
 // What a driver asks before it goes outside, and when it comes back.
 impl<S: LogSink, D: Drop> Machine<S, D> {
-    /// A copy of what thread i asks outside, if it is about to go there, or is there. It is for the driver, which makes the request while
+    /// A copy of what thread i asks outside, if it is about to go there, or is
+    /// there. It is for the driver, which makes the request while
     /// others make their events; so [`Machine::begin_outside`] need not copy the call.
     pub fn request(&self, i: usize) -> Result<Option<Request>, AllocError>
         requires { i < length self.now.whole.threads }
@@ -52,7 +53,8 @@ impl<S: LogSink, D: Drop> Machine<S, D> {
         }
     }
 
-    /// Whether [`Machine::record`] takes this outcome for thread i, with the door that went out (`back`) and with one that was opened. Of a
+    /// Whether [`Machine::record`] takes this outcome for thread i, with the door
+    /// that went out (`back`) and with one that was opened. Of a
     /// thread that is not outside it takes any, and refuses it.
     pub fn takes(&self, i: usize, outcome: &Outcome, back: bool, opened: bool) -> bool
         requires { i < length self.now.whole.threads }

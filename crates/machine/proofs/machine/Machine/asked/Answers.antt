@@ -12,4 +12,5 @@ returns-clause-end g c =
     let D = g.row.D.Denot in
     let x : Shown D = record { whole = m.calls; log = m.log; doors = m.doors.items; stop = m.stop } in
     let inside = subst (λ (y : Shown D). c.args.i < length y.whole.threads) (sym c.self.view_is) c.requires in
-    ap has_end c.asked.ensures ∙ ends_last D x c.self.invariant c.arising_states.ensures.steps c.one_event.ensures c.args.i inside ∙ ap (λ (y : Shown D). is_ended (phase_at y.whole c.args.i)) c.self.view_is
+    ap has_end c.asked.ensures ∙ ends_last D x c.self.invariant c.arising_states.ensures.steps c.one_event.ensures
+    c.args.i inside ∙ ap (λ (y : Shown D). is_ended (phase_at y.whole c.args.i)) c.self.view_is

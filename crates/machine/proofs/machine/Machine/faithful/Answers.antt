@@ -16,6 +16,8 @@ returns g c =
       kept = h;
       legal = legal D x h c.real_runs.ensures.arisen;
       rising = rises D x h c.arising_states.ensures.rising;
-      covered = covered D x h came c.arising_states.ensures.dated c.arising_states.ensures.legal c.requests_asked.ensures.kinds;
-      begins = begins_plain D x h c.prefix_law.ensures.under_followed c.arising_states.ensures.follows c.plain_run_ends.ensures.ends c.plain_run_ends.ensures.own_finite;
+      covered = covered D x h came c.arising_states.ensures.dated c.arising_states.ensures.legal
+          c.requests_asked.ensures.kinds;
+      begins = begins_plain D x h c.prefix_law.ensures.under_followed c.arising_states.ensures.follows
+          c.plain_run_ends.ensures.ends c.plain_run_ends.ensures.own_finite;
     })

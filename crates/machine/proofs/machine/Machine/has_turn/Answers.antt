@@ -9,4 +9,6 @@ use Rattle.machine.proofs.machine.Machine.has_turn.Goals as goal
 pub returns-clause-shown : goal.returns-clause-shown
 returns-clause-shown g c s at =
     let w = c.args.self.now.whole in
-    c.has_turn.ensures ∙ ap (λ (x : Shown g.row.D.Denot). has_turn (clocks_of x.whole.threads) c.args.i) c.self.view_is ∙ ap (λ (clocks : List (Option ℕ)). has_turn clocks c.args.i) (sym (c.machines_show.ensures.clocks (terms_with w (own s)) w s at.1))
+    c.has_turn.ensures ∙ ap (λ (x : Shown g.row.D.Denot). has_turn (clocks_of x.whole.threads) c.args.i) c.self.view_is
+    ∙ ap (λ (clocks : List (Option ℕ)). has_turn clocks c.args.i)
+    (sym (c.machines_show.ensures.clocks (terms_with w (own s)) w s at.1))

@@ -7,5 +7,11 @@ pub invariant_of-result : goal.invariant_of-result
 invariant_of-result g c =
     let x = c.in-Ok-Ok.ensures in
     let y = c.in-Ok-Ok.ensures' in
-    subst (IsKept g.row.D.Denot) (λ k. record { whole = sym x k; log = sym c.requires.begun k; doors = sym y k; stop = None })
-    (first_kept g.row.D.Denot c.args.settings c.args.threads c.arising_states.ensures.at_start c.machines_show.ensures.start c.requires.range)
+    subst (IsKept g.row.D.Denot) (λ k. record {
+      whole = sym x k;
+      log = sym c.requires.begun k;
+      doors = sym y k;
+      stop = None;
+    })
+    (first_kept g.row.D.Denot c.args.settings c.args.threads c.arising_states.ensures.at_start
+    c.machines_show.ensures.start c.requires.range)

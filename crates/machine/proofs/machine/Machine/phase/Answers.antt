@@ -13,4 +13,5 @@ returns-clause-shown g c s at =
     let w = c.args.self.now.whole in
     let i = c.args.i in
     let phase = c.phase.ensures ∙ ap (λ (x : Shown g.row.D.Denot). (thread_at x.whole i).phase) c.self.view_is in
-    subst (λ (p : Phase). ShowsPhase p (thread_of s i).phase) (sym phase) (c.machines_show.ensures.phases (terms_with w (own s)) w s at.1 i)
+    subst (λ (p : Phase). ShowsPhase p (thread_of s i).phase) (sym phase)
+    (c.machines_show.ensures.phases (terms_with w (own s)) w s at.1 i)
