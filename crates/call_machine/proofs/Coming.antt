@@ -13,7 +13,9 @@ use Rattle.call_machine.specs.Driven.{IsTold}
 use Rattle.call_machine.proofs.Playing.{is_calling}
 
 -- an event that has its phase
-pub comes_told : {A : Type 0} (right : Bool) (r : Result A LockRefused) (o : Option A) (old new : Whole) (made : Option A → Type 0) → right ≡ true → Comes right r old new made → IsTold r o → made o
+pub comes_told : {A : Type 0} (right : Bool) (r : Result A LockRefused) (o : Option A) (old new : Whole)
+    (made : Option A
+    → Type 0) → right ≡ true → Comes right r old new made → IsTold r o → made o
 comes_told right (Ok a) o old new made there h told = subst made (sym told) h.1
 comes_told right (Err refused.WrongPhase) o old new made there h told = absurd (false≢true (sym h.0 ∙ there))
 comes_told right (Err refused.ClockFull) o old new made there h told = subst made (sym told) h.2
@@ -25,10 +27,14 @@ refused_told A refused.WrongPhase h = refl
 refused_told A refused.ClockFull h = refl
 refused_told A refused.Memory h = h
 
-pub tried_told : {A : Type 0} (r : Result A LockRefused) (o : Option A) (made : Bool → Type 0) → Tried r made → IsTold r o → made (is_some o)
+pub tried_told : {A : Type 0} (r : Result A LockRefused) (o : Option A) (made : Bool → Type 0) → Tried r made
+    → IsTold r o
+    → made (is_some o)
 tried_told (Ok a) o made h told = let P : Option _ → Type 0 = λ x. made (is_some x) in subst P (sym told) h
-tried_told (Err refused.WrongPhase) o made h told = let P : Option _ → Type 0 = λ x. made (is_some x) in subst P (sym told) h
-tried_told (Err refused.ClockFull) o made h told = let P : Option _ → Type 0 = λ x. made (is_some x) in subst P (sym told) h
+tried_told (Err refused.WrongPhase) o made h told = let P : Option _ → Type 0 = λ x. made (is_some x) in
+    subst P (sym told) h
+tried_told (Err refused.ClockFull) o made h told = let P : Option _ → Type 0 = λ x. made (is_some x) in
+    subst P (sym told) h
 tried_told (Err refused.Memory) o made h told = absurd told
 
 -- ## Phases

@@ -6,6 +6,7 @@ use Rattle.lock_model.specs.State.{State}
 use Rattle.logical_clocks.specs.TurnOrder.{first_below}
 use Rattle.lock_machine.specs.Diverging.{is_diverging}
 
+-- this thread, if there is one and it diverges
 abbrev pub if_diverging : Setup → State → Option ℕ → Option ℕ
 if_diverging setup s (Some i) = if is_diverging setup s i then Some i else None
 if_diverging setup s None = None

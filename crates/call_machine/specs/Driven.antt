@@ -21,6 +21,7 @@ use Rattle.call_machine.specs.Diverging.{diverging}
 abbrev pub first_log : Inputs → Written
 first_log input = record { text = header_text (header_of input); records = 0 }
 
+-- the log has a record for each outcome that came in so many events of the plain run
 abbrev pub IsLogged : Inputs → ℕ → Written → Type 0
 IsLogged input count log =
     let records = plain_records input.settings.version (setup_of input) count (first_state input) in
@@ -67,6 +68,7 @@ WentOn false input n i old new =
     × Falls false old.whole.threads old.players new.whole.threads new.players
 WentOn true input n i old new = Ends input (Some i) new
 
+-- wherever the threads before thread i are at rest, it goes on as far as it can, or diverges
 abbrev pub GoesOn : Bool → ℕ → Played → Played → Type 0
 GoesOn diverges i old new =
     (input : Inputs) (n : ℕ) → i ≤ n → RestsBut input n i old → WentOn diverges input n i old new
@@ -78,6 +80,7 @@ MadeNext (Some i) input n old new =
     × Falls true old.whole.threads old.players new.whole.threads new.players
 MadeNext None input n old new = Ends input None new
 
+-- where no thread can go on without the turn, the next attempt is made, or the plain run is over
 abbrev pub AttemptsNext : Option ℕ → Played → Played → Type 0
 AttemptsNext made old new =
     (input : Inputs) → Rests input (length old.players) old

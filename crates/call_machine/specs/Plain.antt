@@ -26,6 +26,7 @@ use Rattle.machine.specs.declared.stop.Stop.{Stop}
 use Rattle.machine.specs.declared.stop.Stop.TheVariants as stop
 use Rattle.call_machine.specs.declared.plain.Plain.{Plain}
 
+-- a thread at this phase has ended
 abbrev pub has_ended : Phase → Bool
 has_ended Ended = true
 has_ended phase = false
@@ -75,10 +76,11 @@ abbrev pub counts_fit : ℕ → ℕ → Bool
 counts_fit scripts outcomes =
     nat_le 1 scripts && nat_le scripts limit.THREADS && (outcomes == scripts)
 
+-- these scripts and lists of outcomes are as many as the threads of a run can be
 abbrev pub are_threads : Inputs → Bool
 are_threads input = counts_fit (length input.scripts) (length input.outcomes)
 
--- so many events of the plain schedule lead to this state, none of which is behind a state where
+-- so many events of the plain schedule lead to this state, none of which is after a state where
 -- the run diverges
 pub record GoesTo (setup : Setup) (first : State) (count : ℕ) (last : State) : Type 0 where
   pub reached : plain_run setup count first ≡ last

@@ -1,6 +1,7 @@
 -- Internal: no contract of the headline or of a command stands on it.
 -- Scripts that play the threads of a machine.
-use Rattle.std.specs.Prelude.{◌≡◌, ℕ, suc, List, [], ◌∷◌, ◌++◌, length, get_or, set, Option, Some, None, Bool, true, false}
+use Rattle.std.specs.Prelude.{◌≡◌, ℕ, suc, List, [], ◌∷◌, ◌++◌, length, get_or, set, Option, Some}
+use Rattle.std.specs.Prelude.{None, Bool, true, false}
 use Rattle.posix_terms.specs.declared.outcome.Given.{Given}
 use Rattle.posix_terms.specs.declared.reply.Answer as posix
 use Rattle.posix_terms.specs.declared.reply.Answer.TheVariants as answer
@@ -29,6 +30,7 @@ pub record Played : Type 0 where
   pub outcomes : List (List Given)
   pub log : Written
 
+-- the run that a driver has
 abbrev pub played_of : Driver → Played
 played_of d = record {
   whole = d.machine;
@@ -41,6 +43,7 @@ played_of d = record {
 abbrev pub no_player : Player
 no_player = record { actor = start_of []; last = None; stuck = false }
 
+-- the script of thread k, where it stands
 abbrev pub player_at : Played → ℕ → Player
 player_at p k = get_or p.players k no_player
 
@@ -69,11 +72,13 @@ abbrev pub Pauses : Bool → Inputs → ℕ → Player → lock.Thread → Type 
 Pauses false input i p u = IsBetween input i p u
 Pauses true input i p u = moves (setup_of input) i u ≡ None
 
+-- where the script of thread i stands when its thread is at this phase
 abbrev pub PlaysIn : lock.Phase → Inputs → ℕ → Player → lock.Thread → Type 0
 PlaysIn Working input i p u = Pauses p.stuck input i p u
 PlaysIn Ended input i p u = Unit {0}
 PlaysIn phase input i p u = IsInCall input i p u
 
+-- the script of thread i stands where its thread has come to
 abbrev pub Plays : Inputs → ℕ → Player → lock.Thread → Type 0
 Plays input i p u = PlaysIn u.phase input i p u
 
@@ -90,18 +95,20 @@ ComesAt p input s = Arises (setup_of input) (first_state input) s × IsPlayed in
 
 -- ## What a script hears
 
--- its call was told this answer, if it has one
+-- its call was given this answer, if it has one
 abbrev pub heard : Option posix.Answer → Player → Player
 heard (Some (answer.Reply r)) p = record p { last = Some r }
 heard (Some answer.Again) p = p
 heard None p = p
 
+-- the script of thread i is given this answer to its call, if there is one
 abbrev pub hears : Option posix.Answer → ℕ → Played → Played
 hears told i p = record p { players = set p.players i (heard told (player_at p i)) }
 
 -- ## Events
 
--- thread i makes its event that needs no turn, just where it can, and diverges just where what is
+-- thread i makes its event that needs no turn, exactly when it
+-- can, and diverges exactly when what is
 -- there for it does not answer
 pub record Made (made : Progress) (i : ℕ) (old new : Played) (input : Inputs) (s : State)
     : Type 0 where
@@ -112,11 +119,12 @@ pub record Made (made : Progress) (i : ℕ) (old new : Played) (input : Inputs) 
       (came_between input.settings.version i s (advance (setup_of input) i s)) old.log new.log
   pub falls : Falls (has_moved made) old.whole.threads old.players new.whole.threads new.players
 
+-- in whatever state the run is, thread i made its event that needs no turn, or it could not
 abbrev pub Makes : Progress → ℕ → Played → Played → Type 0
 Makes made i old new = (input : Inputs) (s : State) → ComesAt old input s
     → Made made i old new input s
 
--- thread i makes its attempt, just where it can
+-- thread i makes its attempt, exactly when it can
 pub record Tried (made : Bool) (i : ℕ) (old new : Played) (input : Inputs) (s : State)
     : Type 0 where
   pub can : can_attempt (setup_of input) s i ≡ made
@@ -124,6 +132,7 @@ pub record Tried (made : Bool) (i : ℕ) (old new : Played) (input : Inputs) (s 
   pub log : new.log ≡ old.log
   pub falls : Falls made old.whole.threads old.players new.whole.threads new.players
 
+-- in whatever state the run is, thread i made its attempt, or it could not
 abbrev pub Attempted : Bool → ℕ → Played → Played → Type 0
 Attempted made i old new = (input : Inputs) (s : State) → ComesAt old input s
     → Tried made i old new input s

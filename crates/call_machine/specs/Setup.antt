@@ -15,9 +15,11 @@ pub record Inputs : Type 0 where
   pub outcomes : List (List Given)
   pub settings : Settings
 
+-- the script of thread i
 abbrev pub script_of : Inputs → ℕ → List Line
 script_of input i = slice_index_or input.scripts i []
 
+-- the outcomes that come for thread i from outside
 abbrev pub outcomes_of : Inputs → ℕ → List Given
 outcomes_of input i = slice_index_or input.outcomes i []
 
@@ -29,8 +31,10 @@ conditions_of input = record {
   supply = record { next = λ i. scripted (script_of input i); outcomes = outcomes_of input };
 }
 
+-- the setup under which the lock machine runs these scripts
 abbrev pub setup_of : Inputs → Setup
 setup_of input = setup_under (conditions_of input)
 
+-- the state in which a run of these scripts starts
 abbrev pub first_state : Inputs → State
 first_state input = start_under (conditions_of input)

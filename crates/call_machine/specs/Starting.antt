@@ -27,6 +27,7 @@ pub use Rattle.input_log.specs.Headers.{settings_of}
 abbrev pub first_player : List Line → Player
 first_player script = record { actor = start_of script; last = None; stuck = false }
 
+-- a run of these scripts before its first event, with the header of its log
 abbrev pub first_played : Header → List (List Line) → List (List Given) → Played
 first_played header scripts outcomes =
     record {
@@ -41,6 +42,7 @@ abbrev pub stuck_for : Phase → ℕ → Stop
 stuck_for (phase.Outside outing) i = stop.EndOfLog i
 stuck_for p i = stop.ClockFull
 
+-- why a run goes no further, by the thread that has the turn; where none has it, all have ended
 abbrev pub stop_for : List Thread → Option ℕ → Option Stop
 stop_for threads (Some i) = let t : Thread = get_or threads i no_thread in
     Some (stuck_for t.phase i)
@@ -52,7 +54,7 @@ stop_told threads (Some i) = let t : Thread = get_or threads i no_thread in
     Some (stop.Diverged i t.came)
 stop_told threads None = stop_for threads (turn_holder (clocks_of threads))
 
--- what a run tells that has come to its end, or diverged at this thread
+-- what is reported of a run that has come to its end, or diverged at this thread
 abbrev pub told : Option ℕ → Whole → Written → Plain
 told diverged w log =
     record {

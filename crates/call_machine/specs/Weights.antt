@@ -1,7 +1,8 @@
 -- Internal: no contract of the headline or of a command stands on it.
 -- How much a script can still do with its thread: a number that falls with each of the thread's
 -- events.
-use Rattle.std.specs.Prelude.{ℕ, ◌+◌, ◌-◌, ◌*◌, ◌^◌, ◌<◌, ◌≤◌, List, [], ◌∷◌, Bool, true, false, if◌then◌else◌}
+use Rattle.std.specs.Prelude.{ℕ, ◌+◌, ◌-◌, ◌*◌, ◌^◌, ◌<◌, ◌≤◌, List, [], ◌∷◌, Bool, true, false}
+use Rattle.std.specs.Prelude.{if◌then◌else◌}
 use Rattle.thread_scripts.specs.Meaning.{lines_left}
 use Rattle.call_machine.specs.declared.players.Player.{Player}
 use Rattle.lock_machine.specs.declared.thread.Phase.{Phase}
@@ -20,9 +21,11 @@ left_in (phase.Recorded outing) stuck lines = 2 * lines + 3
 left_in (phase.Blocked carried) stuck lines = 2 * lines + 3
 left_in phase.Ended stuck lines = 0
 
+-- how much a script can still do with its thread
 unfoldable pub weight : Thread → Player → ℕ
 weight t p = 4 * (2 ^ 62 - t.clock) + left_in t.phase p.stuck (lines_left p.actor)
 
+-- how much all scripts together can still do with their threads
 abbrev pub total : List Thread → List Player → ℕ
 total [] players = 0
 total (t ∷ threads) [] = 0

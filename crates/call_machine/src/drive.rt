@@ -17,7 +17,7 @@ use crate::driver::Driver;
 use crate::log::Log;
 use crate::players::first_players;
 use input_log::{Header, Record};
-use lock_machine::{LockMachine, Phase, Progress, LockRefused, machines_show};
+use lock_machine::{LockMachine, LockRefused, Phase, Progress, machines_show};
 use lock_model::{arising_states, one_event, turn_order};
 use logical_clocks::least_is_found;
 use posix_terms::{Given, Outcomes};
@@ -34,7 +34,8 @@ impl Driver {
     ) -> Result<Driver, AllocError>
         requires some { 1 ≤ length scripts.items }
         requires within_limit { length scripts.items ≤ limit.THREADS }
-        ensures { IfOk result (λ driver. played_of driver ≡ first_played header scripts.items outcomes.items) }
+        ensures { IfOk result (λ driver. played_of driver
+            ≡ first_played header scripts.items outcomes.items) }
     {
         Ok(Driver {
             machine: LockMachine::new(alloc, scripts.len(), header.settings())?,
@@ -45,11 +46,12 @@ impl Driver {
     }
 
     // Makes the events of the plain schedule, to its end, or until the outcome of a thread does not
-    // answer, which is told. Once each thread has gone on as far as it can, only one that made an
+    // answer, which is returned. Once each thread has gone on as far as it can, only one that made an
     // attempt can go on again.
     pub fn run(&mut self, alloc: Global) -> Result<Option<usize>, AllocError>
         requires { (input : Inputs) × Begins input (played_of self.old) }
-        ensures { IfOk result (λ diverged. (input : Inputs) → Begins input (played_of self.old) → Ends input diverged (played_of self.new)) }
+        ensures { IfOk result (λ diverged. (input : Inputs) → Begins input (played_of self.old)
+            → Ends input diverged (played_of self.new)) }
     {
         laws();
         for i in 0..self.players.len() {
@@ -67,12 +69,14 @@ impl Driver {
         }
     }
 
-    // Thread i makes its events that need no turn, as far as it can, and tells whether it diverges
-    // then. The threads before it can make none.
+    // Thread i makes its events that need no turn, as far as it can, and returns whether it
+    // diverges then. The threads before it can make none.
     fn go_on(&mut self, alloc: Global, i: usize) -> Result<bool, AllocError>
         requires inside { i < length self.old.players.items }
-        requires rests { (input : Inputs) × (n : ℕ) × (i ≤ n) × RestsBut input n i (played_of self.old) }
-        ensures event { IfOk result (λ diverges. GoesOn diverges i (played_of self.old) (played_of self.new)) }
+        requires rests { (input : Inputs) × (n : ℕ) × (i ≤ n)
+            × RestsBut input n i (played_of self.old) }
+        ensures event { IfOk result (λ diverges. GoesOn diverges i (played_of self.old)
+            (played_of self.new)) }
         ensures count { length self.new.players.items ≡ length self.old.players.items }
     {
         laws();
@@ -89,7 +93,8 @@ impl Driver {
     // one is made by the thread that has the turn then. Returns that thread, if there is one and it
     // could.
     fn attempt_next(&mut self) -> Result<Option<usize>, AllocError>
-        ensures event { IfOk result (λ made. AttemptsNext made (played_of self.old) (played_of self.new)) }
+        ensures event { IfOk result (λ made. AttemptsNext made (played_of self.old)
+            (played_of self.new)) }
         ensures count { length self.new.players.items ≡ length self.old.players.items }
     {
         laws();
@@ -106,7 +111,7 @@ impl Driver {
     // Thread i makes its event that needs no turn, where it can.
     fn advance(&mut self, alloc: Global, i: usize) -> Result<Progress, AllocError>
         requires { i < length self.old.players.items }
-        ensures event { IfOk result (λ made. Makes made i (played_of self.old) (played_of self.new)) }
+        ensures event { IfOk result (λ m. Makes m i (played_of self.old) (played_of self.new)) }
         ensures count { length self.new.players.items ≡ length self.old.players.items }
     {
         laws();
@@ -131,7 +136,7 @@ impl Driver {
     fn ask(&mut self, i: usize) -> Result<Progress, AllocError>
         requires inside { i < length self.old.players.items }
         requires working { works (phase_at self.old.machine i) ≡ true }
-        ensures event { IfOk result (λ made. Makes made i (played_of self.old) (played_of self.new)) }
+        ensures event { IfOk result (λ m. Makes m i (played_of self.old) (played_of self.new)) }
         ensures count { length self.new.players.items ≡ length self.old.players.items }
     {
         laws();
@@ -148,7 +153,7 @@ impl Driver {
     fn record(&mut self, alloc: Global, i: usize) -> Result<Progress, AllocError>
         requires inside { i < length self.old.players.items }
         requires outside { is_outside (phase_at self.old.machine i) ≡ true }
-        ensures event { IfOk result (λ made. Makes made i (played_of self.old) (played_of self.new)) }
+        ensures event { IfOk result (λ m. Makes m i (played_of self.old) (played_of self.new)) }
         ensures count { length self.new.players.items ≡ length self.old.players.items }
     {
         laws();
@@ -186,7 +191,8 @@ impl Driver {
     fn attempt(&mut self, i: usize) -> Result<bool, AllocError>
         requires inside { i < length self.old.players.items }
         requires turn { has_turn (clocks_of self.old.machine.threads) i ≡ true }
-        ensures event { IfOk result (λ made. Attempted made i (played_of self.old) (played_of self.new)) }
+        ensures event { IfOk result (λ made. Attempted made i (played_of self.old)
+            (played_of self.new)) }
         ensures count { length self.new.players.items ≡ length self.old.players.items }
     {
         laws();
@@ -206,7 +212,7 @@ impl Driver {
                 self.players[i].hear(told);
                 Progress::Moves
             }
-            // It wants no memory: the thread's clock is full.
+            // It takes no memory: the thread's clock is full.
             Err(_) => Progress::Stays,
         }
     }
@@ -215,7 +221,8 @@ impl Driver {
 // Thread i, which works, asks this step, or ends.
 fn ask(machine: &mut LockMachine, i: usize, step: Step) -> Result<(), LockRefused>
     requires { i < length machine.old.threads }
-    ensures event { Comes (works (phase_at machine.old i)) result machine.old machine.new (λ o. AsksFor (is_some o) i step machine.old machine.new) }
+    ensures event { Comes (works (phase_at machine.old i)) result machine.old machine.new
+        (λ o. AsksFor (is_some o) i step machine.old machine.new) }
     ensures count { length machine.new.threads ≡ length machine.old.threads }
 {
     match step {

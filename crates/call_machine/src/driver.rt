@@ -5,7 +5,8 @@ use crate::players::Player;
 use lock_machine::LockMachine;
 use posix_terms::Outcomes;
 
-// Scripts that play the threads of a machine on the plain schedule, with the outcomes that come for each from outside, and the record of each
+// Scripts that play the threads of a machine on the plain schedule, with the
+// outcomes that come for each from outside, and the record of each
 // that came.
 #[derive(Drop)]
 pub struct Driver {

@@ -12,7 +12,7 @@ use posix_terms::{PackedRow, Row, Transcript, Transcripts};
 use std::alloc::{AllocError, Global};
 
 impl Driver {
-    // What a run tells that has come to its end, or diverged at this thread.
+    // What is reported of a run that has come to its end, or diverged at this thread.
     pub fn finish(self, alloc: Global, diverged: Option<usize>) -> Result<Plain, AllocError>
         ensures { IfOk result (λ plain. plain ≡ told diverged self.machine self.log) }
     {

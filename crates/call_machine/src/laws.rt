@@ -9,7 +9,7 @@ use machine::outcomes_are_recorded;
 
 /// The log of a plain run, after any number of events. By thread the outcomes of its records are
 /// those that came, in order, in version 1 without their clocks (`came`); it is a log, which has a
-/// spelling (`spelled`); and a plain run under just those outcomes never diverges (`straight`). So
+/// spelling (`spelled`); and a plain run under exactly those outcomes never diverges (`straight`). So
 /// the log of a run leads to that run again. The contract is the law.
 pub fn logs_of_plain_runs()
     ensures came { RecordsCame }

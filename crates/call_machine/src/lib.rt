@@ -44,8 +44,6 @@ pub use fault::PlainFault;
 pub use history::History;
 pub use laws::{logs_of_plain_runs, logs_of_runs, plain_runs_agree};
 pub use lock_machine::Asked;
-pub use machine::{
-    Attempt, Finished, Left, Machine, NotRecorded, Outing, Phase, Refused, Stop,
-};
+pub use machine::{Attempt, Finished, Left, Machine, NotRecorded, Outing, Phase, Refused, Stop};
 pub use plain::Plain;
 pub use run::plain_run;

@@ -20,7 +20,8 @@ impl Player {
     // The script's next step. Without memory for it the run is over, so nothing is saved for that.
     pub fn next(&mut self) -> Result<Step, AllocError>
         ensures step { IfOk result (λ step. step ≡ (next_of self.old.last self.old.actor).0) }
-        ensures after { IfOk result (λ _. self.new ≡ record self.old { actor = (next_of self.old.last self.old.actor).1; last = None }) }
+        ensures after { IfOk result (λ _. self.new
+            ≡ record self.old { actor = (next_of self.old.last self.old.actor).1; last = None }) }
     {
         match self.actor.next_unsaved(self.last.take()) {
             Ok(step) => Ok(step),

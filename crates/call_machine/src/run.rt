@@ -27,7 +27,8 @@ use thread_scripts::Script;
 /// next.
 ///
 /// At each moment the lowest-numbered thread that can go on without the turn does so; when none can, the thread that
-/// holds the turn tries for the lock that its call wants. Two things hold a thread back: its list has no outcome left for
+/// holds the turn tries for the lock that its call wants. Two things
+/// hold a thread back: its list has no outcome left for
 /// what it asked; or a number is at its limit, its clock or the count of its outcomes. The others then run on until the
 /// turn is its own, and there the run stops, with `EndOfLog` in the first case and `ClockFull` in the second; it has no
 /// stop once all threads have ended. An outcome that does not answer what was asked stops it at once, with `Diverged`,
@@ -43,10 +44,19 @@ pub fn plain_run(
     outcomes: Vec<Outcomes>,
     settings: Settings,
 ) -> Result<Plain, PlainFault>
-    ensures run { Runs result (record { scripts = scripts.items; outcomes = outcomes.items; settings = settings }) }
+    ensures run { Runs result (record {
+      scripts = scripts.items;
+      outcomes = outcomes.items;
+      settings = settings;
+    }) }
     ensures legal { IfOk result (λ plain. IsLegal settings plain.history.rows) }
     ensures rising { IfOk result (λ plain. AreRising plain.history.rows) }
-    ensures covered { IfOk result (λ plain. IsCovered (header_of (record { scripts = scripts.items; outcomes = outcomes.items; settings = settings })) plain.history.rows plain.log) }
+    ensures covered { IfOk result (λ plain. IsCovered
+        (header_of (record {
+          scripts = scripts.items;
+          outcomes = outcomes.items;
+          settings = settings;
+        })) plain.history.rows plain.log) }
 {
     if !counts_fit(scripts.len(), outcomes.len()) {
         return Err(PlainFault::Threads);

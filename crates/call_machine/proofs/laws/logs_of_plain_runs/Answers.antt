@@ -22,4 +22,10 @@ pub returns-clause-straight : goal.returns-clause-straight
 returns-clause-straight c =
     let came = c.outcomes_that_came.ensures in
     let keeps = c.outcomes_are_recorded.ensures in
-    none_diverges (record { keeps = keeps.keeps; alike = came.alike; same = came.same; stays = came.stays; grows = came.grows })
+    none_diverges (record {
+      keeps = keeps.keeps;
+      alike = came.alike;
+      same = came.same;
+      stays = came.stays;
+      grows = came.grows;
+    })

@@ -9,17 +9,31 @@ use Rattle.call_machine.proofs.run.plain_run.Goals as goal
 
 pub run-requires : goal.run-requires
 run-requires c =
-    let input : Inputs = record { scripts = c.args.scripts.items; outcomes = c.args.outcomes.items; settings = c.args.settings } in
-    let count : c.len-3.result ≡ length c.args.scripts.items = search rules in
-    (input, begins_of c.laws.ensures.starts input c.len-3.result c.new-header.result (played_of c.in_ok-driver.driver) count c.new-header.ensures c.in_ok-driver.ensures)
+    let input : Inputs = record {
+      scripts = c.args.scripts.items;
+      outcomes = c.args.outcomes.items;
+      settings = c.args.settings;
+    } in
+    let count : c.len-3.result ≡ length c.args.scripts.items = search rules in (
+      input,
+      begins_of c.laws.ensures.starts input c.len-3.result c.new-header.result (played_of c.in_ok-driver.driver)
+          count c.new-header.ensures c.in_ok-driver.ensures,
+    )
 
 pub returns-clause-run : goal.returns-clause-run
 returns-clause-run c =
-    let input : Inputs = record { scripts = c.args.scripts.items; outcomes = c.args.outcomes.items; settings = c.args.settings } in
+    let input : Inputs = record {
+      scripts = c.args.scripts.items;
+      outcomes = c.args.outcomes.items;
+      settings = c.args.settings;
+    } in
     let p = played_of c.run.new.self in
     let diverged = c.in_ok-diverged.diverged in
     let count : c.len-3.result ≡ length c.args.scripts.items = search rules in
-    let e : Ends input diverged p = c.in_ok-diverged.ensures input (begins_of c.laws.ensures.starts input c.len-3.result c.new-header.result (played_of c.in_ok-driver.driver) count c.new-header.ensures c.in_ok-driver.ensures) in
+    let e : Ends input diverged p =
+    c.in_ok-diverged.ensures input
+    (begins_of c.laws.ensures.starts input c.len-3.result c.new-header.result (played_of c.in_ok-driver.driver)
+    count c.new-header.ensures c.in_ok-driver.ensures) in
     let plain = c.in_ok-finish.field-0 in
     let threads : are_threads input ≡ true = search rules in
     let settings : are_settings input.settings ≡ true = search rules in
@@ -27,29 +41,54 @@ returns-clause-run c =
 
 pub returns-clause-legal : goal.returns-clause-legal
 returns-clause-legal c =
-    let input : Inputs = record { scripts = c.args.scripts.items; outcomes = c.args.outcomes.items; settings = c.args.settings } in
+    let input : Inputs = record {
+      scripts = c.args.scripts.items;
+      outcomes = c.args.outcomes.items;
+      settings = c.args.settings;
+    } in
     let p = played_of c.run.new.self in
     let diverged = c.in_ok-diverged.diverged in
     let count : c.len-3.result ≡ length c.args.scripts.items = search rules in
-    let e : Ends input diverged p = c.in_ok-diverged.ensures input (begins_of c.laws.ensures.starts input c.len-3.result c.new-header.result (played_of c.in_ok-driver.driver) count c.new-header.ensures c.in_ok-driver.ensures) in
-    plain_legal c.laws.ensures.clocks c.laws.ensures.legal input diverged p c.in_ok-finish.field-0 e c.in_ok-finish.ensures
+    let e : Ends input diverged p =
+    c.in_ok-diverged.ensures input
+    (begins_of c.laws.ensures.starts input c.len-3.result c.new-header.result (played_of c.in_ok-driver.driver)
+    count c.new-header.ensures c.in_ok-driver.ensures) in
+    plain_legal c.laws.ensures.clocks c.laws.ensures.legal input diverged p c.in_ok-finish.field-0 e
+    c.in_ok-finish.ensures
 
 pub returns-clause-rising : goal.returns-clause-rising
 returns-clause-rising c =
-    let input : Inputs = record { scripts = c.args.scripts.items; outcomes = c.args.outcomes.items; settings = c.args.settings } in
+    let input : Inputs = record {
+      scripts = c.args.scripts.items;
+      outcomes = c.args.outcomes.items;
+      settings = c.args.settings;
+    } in
     let p = played_of c.run.new.self in
     let diverged = c.in_ok-diverged.diverged in
     let count : c.len-3.result ≡ length c.args.scripts.items = search rules in
-    let e : Ends input diverged p = c.in_ok-diverged.ensures input (begins_of c.laws.ensures.starts input c.len-3.result c.new-header.result (played_of c.in_ok-driver.driver) count c.new-header.ensures c.in_ok-driver.ensures) in
-    plain_rising c.laws.ensures.clocks c.laws.ensures.rising input diverged p c.in_ok-finish.field-0 e c.in_ok-finish.ensures
+    let e : Ends input diverged p =
+    c.in_ok-diverged.ensures input
+    (begins_of c.laws.ensures.starts input c.len-3.result c.new-header.result (played_of c.in_ok-driver.driver)
+    count c.new-header.ensures c.in_ok-driver.ensures) in
+    plain_rising c.laws.ensures.clocks c.laws.ensures.rising input diverged p c.in_ok-finish.field-0 e
+    c.in_ok-finish.ensures
 
 pub returns-clause-covered : goal.returns-clause-covered
 returns-clause-covered c =
-    let input : Inputs = record { scripts = c.args.scripts.items; outcomes = c.args.outcomes.items; settings = c.args.settings } in
+    let input : Inputs = record {
+      scripts = c.args.scripts.items;
+      outcomes = c.args.outcomes.items;
+      settings = c.args.settings;
+    } in
     let p = played_of c.run.new.self in
     let diverged = c.in_ok-diverged.diverged in
     let count : c.len-3.result ≡ length c.args.scripts.items = search rules in
-    let e : Ends input diverged p = c.in_ok-diverged.ensures input (begins_of c.laws.ensures.starts input c.len-3.result c.new-header.result (played_of c.in_ok-driver.driver) count c.new-header.ensures c.in_ok-driver.ensures) in
+    let e : Ends input diverged p =
+    c.in_ok-diverged.ensures input
+    (begins_of c.laws.ensures.starts input c.len-3.result c.new-header.result (played_of c.in_ok-driver.driver)
+    count c.new-header.ensures c.in_ok-driver.ensures) in
     let threads : are_threads input ≡ true = search rules in
     let settings : are_settings input.settings ≡ true = search rules in
-    plain_covered c.laws.ensures.clocks c.laws.ensures.records c.laws.ensures.came c.laws.ensures.spelled c.laws.ensures.rows c.laws.ensures.dated input diverged p c.in_ok-finish.field-0 e c.in_ok-finish.ensures threads settings
+    plain_covered c.laws.ensures.clocks c.laws.ensures.records c.laws.ensures.came c.laws.ensures.spelled
+    c.laws.ensures.rows c.laws.ensures.dated input diverged p c.in_ok-finish.field-0 e c.in_ok-finish.ensures
+    threads settings

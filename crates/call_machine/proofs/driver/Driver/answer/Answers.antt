@@ -22,10 +22,12 @@ returns-in-Ok-clause-event c =
     let q = phase_at p.whole i in
     let a = c.in-Ok.told in
     let R : Result Answer LockRefused → Type 0 = λ r. Comes (has_answer q) r p.whole w (λ o. Tells o i p.whole w) in
-    let h = comes_told (has_answer q) (Ok a) (Some a) p.whole w (λ o. Tells o i p.whole w) c.requires.answered (subst R c.in-Ok.is c.answer.ensures.event) refl in
+    let h = comes_told (has_answer q) (Ok a) (Some a) p.whole w (λ o. Tells o i p.whole w) c.requires.answered
+    (subst R c.in-Ok.is c.answer.ensures.event) refl in
     let P : Player → Type 0 = λ x. Makes progress.Moves i p (record p { whole = w; players = set p.players i x }) in
     let own = player_is c.args.self.now i c.index_mut.result.now c.requires.inside c.index_mut.ensures.value in
-    subst P (sym (c.hear.ensures ∙ ap (heard (Some a)) (sym own))) (tells_made c.laws.ensures.events p i w q (Some a) c.requires.inside refl (answering q c.requires.answered) h)
+    subst P (sym (c.hear.ensures ∙ ap (heard (Some a)) (sym own)))
+    (tells_made c.laws.ensures.events p i w q (Some a) c.requires.inside refl (answering q c.requires.answered) h)
 
 pub returns-in-Err-clause-event : goal.returns-in-Err-clause-event
 returns-in-Err-clause-event c =
@@ -37,6 +39,8 @@ returns-in-Err-clause-event c =
     let R : Result Answer LockRefused → Type 0 = λ r. Comes (has_answer q) r p.whole w (λ o. Tells o i p.whole w) in
     let N : Result Answer LockRefused → Type 0 = λ r. WantsNone r in
     let none = refused_told Answer e (subst N c.in-Err.is c.answer.ensures.memory) in
-    let h = comes_told (has_answer q) (Err e) None p.whole w (λ o. Tells o i p.whole w) c.requires.answered (subst R c.in-Err.is c.answer.ensures.event) none in
+    let h = comes_told (has_answer q) (Err e) None p.whole w (λ o. Tells o i p.whole w) c.requires.answered
+    (subst R c.in-Err.is c.answer.ensures.event) none in
     let P : List Player → Type 0 = λ x. Makes progress.Stays i p (record p { whole = w; players = x }) in
-    subst P (set-get_or p.players i _) (tells_made c.laws.ensures.events p i w q None c.requires.inside refl (answering q c.requires.answered) h)
+    subst P (set-get_or p.players i _)
+    (tells_made c.laws.ensures.events p i w q None c.requires.inside refl (answering q c.requires.answered) h)

@@ -12,4 +12,6 @@ returns-clause-event c =
     let o = c.in_ok-told.field-0 in
     let P : Bool → Type 0 = λ made. shows.Attempts made c.args.i p.whole w in
     let Q : Bool → Type 0 = λ made. Attempted made c.args.i p (record p { whole = w }) in
-    subst Q (sym c.is_some.ensures) (attempts_made c.laws.ensures.events p c.args.i w (is_some o) c.requires.inside (tried_told c.attempt.result o P c.attempt.ensures.event c.in_ok-told.ensures))
+    subst Q (sym c.is_some.ensures)
+    (attempts_made c.laws.ensures.events p c.args.i w (is_some o) c.requires.inside
+    (tried_told c.attempt.result o P c.attempt.ensures.event c.in_ok-told.ensures))

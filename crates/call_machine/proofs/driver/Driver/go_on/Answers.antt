@@ -12,7 +12,9 @@ loop-preserved c =
     let now = played_of c.loop.self in
     let new = played_of c.advance.new.self in
     let Q : Progress → Type 0 = λ p. Makes p c.args.i now new in
-    keeps_more c.laws.ensures.events c.laws.ensures.arises c.laws.ensures.least c.args.i (played_of c.args.self.now) now new c.requires.inside c.in_ok-advance.ensures.count c.loop.invariant (subst Q c.in-Moves.is c.in_ok-advance.ensures.event)
+    keeps_more c.laws.ensures.events c.laws.ensures.arises c.laws.ensures.least c.args.i (played_of c.args.self.now) now
+    new c.requires.inside c.in_ok-advance.ensures.count c.loop.invariant
+    (subst Q c.in-Moves.is c.in_ok-advance.ensures.event)
 
 pub loop-smaller : goal.loop-smaller
 loop-smaller c =
@@ -20,7 +22,9 @@ loop-smaller c =
     let new = played_of c.advance.new.self in
     let Q : Progress → Type 0 = λ p. Makes p c.args.i now new in
     let r = c.requires.rests in
-    keeps_lower c.laws.ensures.events c.laws.ensures.arises c.laws.ensures.least r.0 r.1 c.args.i (played_of c.args.self.now) now new c.requires.inside r.2 r.3 c.loop.invariant (subst Q c.in-Moves.is c.in_ok-advance.ensures.event)
+    keeps_lower c.laws.ensures.events c.laws.ensures.arises c.laws.ensures.least r.0 r.1 c.args.i
+    (played_of c.args.self.now) now new c.requires.inside r.2 r.3 c.loop.invariant
+    (subst Q c.in-Moves.is c.in_ok-advance.ensures.event)
 
 pub returns-in-Diverges : goal.returns-in-Diverges
 returns-in-Diverges c =
@@ -28,7 +32,8 @@ returns-in-Diverges c =
     let new = played_of c.advance.new.self in
     let Q : Progress → Type 0 = λ p. Makes p c.args.i now new in
     record {
-      event = went_apart c.laws.ensures.events c.laws.ensures.least c.args.i (played_of c.args.self.now) now new c.requires.inside c.loop.invariant (subst Q c.in-Diverges.is c.in_ok-advance.ensures.event);
+      event = went_apart c.laws.ensures.events c.laws.ensures.least c.args.i (played_of c.args.self.now) now new
+          c.requires.inside c.loop.invariant (subst Q c.in-Diverges.is c.in_ok-advance.ensures.event);
       count = c.in_ok-advance.ensures.count ∙ c.loop.invariant.count;
     }
 
@@ -38,6 +43,7 @@ returns-in-Stays c =
     let new = played_of c.advance.new.self in
     let Q : Progress → Type 0 = λ p. Makes p c.args.i now new in
     record {
-      event = went_on c.laws.ensures.events c.args.i (played_of c.args.self.now) now new c.loop.invariant (subst Q c.in-Stays.is c.in_ok-advance.ensures.event);
+      event = went_on c.laws.ensures.events c.args.i (played_of c.args.self.now) now new c.loop.invariant
+          (subst Q c.in-Stays.is c.in_ok-advance.ensures.event);
       count = c.in_ok-advance.ensures.count ∙ c.loop.invariant.count;
     }

@@ -12,7 +12,8 @@ invariant-loop-i l = HaveGoneOn l.i (played_of l.fn.self) (played_of l.self)
 
 -- all have
 abbrev pub invariant-loop-i-2 : goal.invariant-loop-i-2
-invariant-loop-i-2 l = (input : Inputs) → Begins input (played_of l.fn.self) → let p : Played = played_of l.self in Rests input (length p.players) p
+invariant-loop-i-2 l = (input : Inputs) → Begins input (played_of l.fn.self)
+    → let p : Played = played_of l.self in Rests input (length p.players) p
 
 abbrev pub decreases-loop-i-2 : goal.decreases-loop-i-2
 decreases-loop-i-2 l = let p : Played = played_of l.self in total p.whole.threads p.players
