@@ -5,7 +5,9 @@ use Rattle.std.proofs.lemmas.List.Elements.{All-replicate}
 use Rattle.host_doors.specs.declared.counts.Counts.{Counts}
 use Rattle.recorder.specs.Each.{IsUnused}
 
-pub all_unused : {E : Type 0} (threads : ℕ) (r : Result (List Counts) E) → IfOk r (λ hosts. hosts ≡ replicate threads (record { given = 0; failures = 0 })) → IfOk r (λ hosts. All (IsUnused (λ h. h.given) (λ h. h.failures)) hosts)
+pub all_unused : {E : Type 0} (threads : ℕ) (r : Result (List Counts) E)
+    → IfOk r (λ hosts. hosts ≡ replicate threads (record { given = 0; failures = 0 }))
+    → IfOk r (λ hosts. All (IsUnused (λ h. h.given) (λ h. h.failures)) hosts)
 all_unused threads (Ok hosts) are =
     let none : Counts = record { given = 0; failures = 0 } in
     let P : Counts → Type 0 = IsUnused (λ (h : Counts). h.given) (λ (h : Counts). h.failures) in

@@ -13,6 +13,7 @@ abbrev pub lets_go : ℕ → Option Outing → Bool
 lets_go row None = true
 lets_go row (Some o) = not (nat_lt o.row row)
 
+-- no thread has a call outside, or about to go there, that was granted before this row
 abbrev pub all_let_go : ℕ → List Thread → Bool
 all_let_go row threads = all_true (map (λ (t : Thread). lets_go row (out_of t.phase)) threads)
 

@@ -66,6 +66,7 @@ IsCalling v = IsStill v × EndsInCall v.steps
 
 -- ## After a step
 
+-- the kind of a step
 abbrev pub kind_of : Step → StepKind
 kind_of (step.Work n) = asked.Work
 kind_of (step.Call c) = asked.Call

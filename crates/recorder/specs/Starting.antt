@@ -17,6 +17,7 @@ refusal actors outsides settings =
     else if outsides == actors && are_settings settings then None
     else Some fault.Settings
 
+-- why no run was started of so many actors with so many outsides; it may be for lack of memory
 abbrev pub IsRefusal : StartFault → ℕ → ℕ → Settings → Type 0
 IsRefusal f actors outsides settings =
     (refusal actors outsides settings ≡ Some f)

@@ -1,5 +1,5 @@
-//! Records runs of real threads, for programs that embed it and for `detio record`: each actor has
-//! a thread of its own, all make their events at one machine under one lock, and calls to the
+//! Records runs of real threads, for programs that embed it and for `detio record`. Each actor has
+//! a thread of its own. All make their events at one machine under one lock, and calls to the
 //! outside are made while other threads go on.
 //!
 //! [`run_recorded`] takes 1 to 16 actors, an outside for each that gave nothing yet, and a sink

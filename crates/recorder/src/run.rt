@@ -40,8 +40,8 @@ use worker_notes::Own;
 /// the sink failed (`fails`).
 ///
 /// What each thread saw is the replies of its rows (`transcripts`). The stop is the machine's own.
-/// `Memory` takes its place exactly where there was no memory for all that the threads saw: then
-/// each saw a beginning. `Strayed` takes the place of both exactly where the machine had other
+/// `Memory` takes its place exactly when there was no memory for all that the threads saw: then
+/// each saw a beginning. `Strayed` takes the place of both exactly when the machine had other
 /// threads or settings, or its history says of a thread something else than its worker noted: the
 /// steps that were asked, the replies, and what came from outside, with the requests of the rows'
 /// calls.

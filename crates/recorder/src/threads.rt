@@ -124,7 +124,12 @@ fn start_watcher<
     D: Send + Drop + 's,
     W: Watch + Send + Drop + 's,
     R: Wait + Sync + 's,
->(scope: &Scope<'s, E>, rt: &'s R, shared: &'s SharedRun<S, D>, watch: W) -> Option<JoinHandle<()>> {
+>(
+    scope: &Scope<'s, E>,
+    rt: &'s R,
+    shared: &'s SharedRun<S, D>,
+    watch: W,
+) -> Option<JoinHandle<()>> {
     let pause = watch.pause()?;
     match scope.spawn(move || keep_watch(rt, shared, pause, watch)) {
         Ok(watcher) => Some(watcher),

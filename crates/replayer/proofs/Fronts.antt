@@ -15,7 +15,8 @@ front_is_log text log (inl whole) = record { range = whole.range; each_good = wh
 front_is_log text log (inr torn) = record { range = torn.spelled.range; each_good = torn.spelled.each_good }
 
 -- a log has as many threads as can run together
-pub threads_fit : (header : Header) (n : ℕ) (records : List Record) → in_range header ≡ true → header.threads ≡ n → counts_fit n (length (outcomes_by n records)) ≡ true
+pub threads_fit : (header : Header) (n : ℕ) (records : List Record) → in_range header ≡ true → header.threads ≡ n
+    → counts_fit n (length (outcomes_by n records)) ≡ true
 unfolding in_range
 threads_fit header n records range is = rw (outcomes_length n records) (grind (arith, range, is))
 

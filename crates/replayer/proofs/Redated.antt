@@ -33,7 +33,7 @@ use Rattle.replayer.proofs.Supplied.{HasCame}
 
 -- ## What is due of a thread
 
--- behind a record of its own, or of another thread
+-- after a record of its own, or of another thread
 abbrev due_after : Bool → Due → Record → Due
 due_after true due r = record { number = due.number + 1; clock = unwrap_or r.clock 0 }
 due_after false due r = due

@@ -16,8 +16,10 @@ no_log : (plain : Plain) (fault : LogFault) (o : Option (ℕ × ℕ)) → Err (r
 no_log plain fault None is = cc
 no_log plain fault (Some (thread, number)) is = cc
 
-never_log : (log : LogText) (plain : Plain) (fault : LogFault) (o : Option Stop) → Tells log plain o (Err (replay_fault.Log fault)) → ⊥
-never_log log plain fault None is = no_log plain fault (first_unused log.header.threads log.records plain.history.rows) is
+never_log : (log : LogText) (plain : Plain) (fault : LogFault) (o : Option Stop)
+    → Tells log plain o (Err (replay_fault.Log fault)) → ⊥
+never_log log plain fault None is = no_log plain fault (first_unused log.header.threads log.records plain.history.rows)
+    is
 never_log log plain fault (Some (stop.EndOfLog i)) is = cc
 never_log log plain fault (Some (stop.Diverged i n)) is = cc
 never_log log plain fault (Some stop.ClockFull) is = cc
@@ -38,10 +40,12 @@ never_threads log plain (Some stop.Memory) is = is
 never_threads log plain (Some stop.Sink) is = is
 never_threads log plain (Some stop.Strayed) is = is
 
-pub replays : (text : List ℕ) (scripts : List (List Line)) (log : LogText) (plain : Plain) (answer : Result Replayed ReplayFault)
+pub replays : (text : List ℕ) (scripts : List (List Line)) (log : LogText) (plain : Plain)
+    (answer : Result Replayed ReplayFault)
     → IsRunByText text scripts log plain → Tells log plain plain.stop answer → Replays text scripts answer
 replays text scripts log plain (Err replay_fault.Memory) by tells = tt
-replays text scripts log plain (Err (replay_fault.Log fault)) by tells = absurd (never_log log plain fault plain.stop tells)
+replays text scripts log plain (Err (replay_fault.Log fault)) by tells =
+    absurd (never_log log plain fault plain.stop tells)
 replays text scripts log plain (Err replay_fault.Threads) by tells = absurd (never_threads log plain plain.stop tells)
 replays text scripts log plain (Ok replayed) by tells = (log, plain, by, tells)
 replays text scripts log plain (Err (replay_fault.EndOfLog i t)) by tells = (log, plain, by, tells)

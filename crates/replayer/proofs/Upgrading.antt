@@ -1,5 +1,6 @@
 -- The upgrade of the log that a run wrote.
-use Rattle.std.proofs.Common.{◌≡◌, ℕ, Bool, false, List, [], ◌∷◌, length, map, Option, Some, None, is_some, refl, sym, ap, ap₂, ◌∙◌, subst, inl, inr, ◌==◌, not, Result, Ok, Err}
+use Rattle.std.proofs.Common.{◌≡◌, ℕ, Bool, false, List, [], ◌∷◌, length, map, Option, Some, None, is_some, refl, sym}
+use Rattle.std.proofs.Common.{ap, ap₂, ◌∙◌, subst, inl, inr, ◌==◌, not, Result, Ok, Err}
 use Rattle.std.proofs.lemmas.List.{length-map, length-replicate}
 use Rattle.std.proofs.lemmas.Option.{none-some}
 use Rattle.std.proofs.lemmas.Simd.{map-map}
@@ -48,7 +49,8 @@ use Rattle.replayer.specs.Known.{KnownOfThreads}
 use Rattle.replayer.specs.Outcomes.{first_unused}
 use Rattle.replayer.specs.Replay.{IsNoReplay, Tells, ended, inputs_of}
 use Rattle.replayer.specs.Upgrade.{IsNoRun, IsNoUpgrade, IsRefused, refusal, refusal_of}
-use Rattle.replayer.specs.UpgradeLaws.{IsUpgradedTo, PlainRunsAreUpgraded, RefusedAlike, RecordedRunsAreUpgraded, RunsAreUpgraded}
+use Rattle.replayer.specs.UpgradeLaws.{IsUpgradedTo, PlainRunsAreUpgraded, RefusedAlike, RecordedRunsAreUpgraded}
+use Rattle.replayer.specs.UpgradeLaws.{RunsAreUpgraded}
 use Rattle.replayer.specs.declared.fault.ReplayFault.{ReplayFault}
 use Rattle.replayer.specs.declared.fault.ReplayFault.TheVariants as replay_fault
 use Rattle.replayer.specs.declared.replayed.Replayed.{Replayed}
@@ -65,7 +67,8 @@ use Rattle.replayer.proofs.Supplied.{HasCame, back_by_own, kept_came, own_back, 
 -- ## The plain run by a log that a run wrote
 
 -- the rows have the same clocks, by thread, where the same came
-rows_clocks : KnownOfThreads → (i : ℕ) (s : State) → AreDated s.rows → (thread_of s i).came ≡ of_rows.outcomes_of i s.rows
+rows_clocks : KnownOfThreads → (i : ℕ) (s : State) → AreDated s.rows
+    → (thread_of s i).came ≡ of_rows.outcomes_of i s.rows
     → map (λ (g : Given). g.clock) (thread_of s i).came ≡ clocks_in 2 i (map shown s.rows)
 rows_clocks known i s dated rows = ap (map (λ (g : Given). g.clock)) rows ∙ known.records.clocks 2 i s.rows dated
 
@@ -93,11 +96,14 @@ upgradable known log scripts s plain retraced dated as_many run =
     let last = run.last in
     let none : diverging setup last ≡ None =
     subst (λ (z : State). diverging setup z ≡ None) run.goes.reached (straight known input s retraced run.count) in
-    let ends : EndsIn setup (first_state input) last = record { count = run.count; reached = run.goes.reached; over = run.ends none } in
+    let ends : EndsIn setup (first_state input) last =
+    record { count = run.count; reached = run.goes.reached; over = run.ends none } in
     let rows : plain.history.rows ≡ map shown last.rows = ap (λ (p : Plain). p.history.rows) run.shows in
-    let stop : plain.stop ≡ stop_by last (turn_holder (live_clocks last)) = ap (λ (p : Plain). p.stop) run.shows ∙ ap (stop_of last) none in
+    let stop : plain.stop ≡ stop_by last (turn_holder (live_clocks last)) = ap (λ (p : Plain). p.stop) run.shows
+    ∙ ap (stop_of last) none in
     let used : first_unused log.header.threads log.records plain.history.rows ≡ None =
-    ap (first_unused log.header.threads log.records) rows ∙ all_used known log.records input s last retraced ends as_many log.header.threads in
+    ap (first_unused log.header.threads log.records) rows
+    ∙ all_used known log.records input s last retraced ends as_many log.header.threads in
     let dated_last : AreDated last.rows =
     subst (λ (z : State). AreDated z.rows) run.goes.reached
     (known.dated setup (length scripts) limit.OBJECTS first_world (plain_run setup run.count (first_state input))
@@ -108,7 +114,8 @@ upgradable known log scripts s plain retraced dated as_many run =
     ∙ ap (map (λ (g : Given). g.clock)) (same_came known input s last retraced ends i)
     ∙ rows_clocks known i s dated (retraced.rows i) in
     record {
-      clear = ap₂ (λ o u. refusal o u plain.transcripts) stop used ∙ unrefused last (turn_holder (live_clocks last)) plain.transcripts;
+      clear = ap₂ (λ o u. refusal o u plain.transcripts) stop used
+          ∙ unrefused last (turn_holder (live_clocks last)) plain.transcripts;
       same = λ j. with_clocks (λ i. clocks i j) log;
     }
 
@@ -125,7 +132,8 @@ upgraded_to known text log scripts s version front threads retraced dated as_man
           let found = plain_end known (inputs_of log scripts) in
           let plain = plain_of (inputs_of log scripts) found.1.count found.0 in
           let run : IsPlainRun (inputs_of log scripts) plain =
-          plain_is log scripts (front_is_log text log front) threads found.0 found.1 (straight known (inputs_of log scripts) s retraced) in
+          plain_is log scripts (front_is_log text log front) threads found.0 found.1
+          (straight known (inputs_of log scripts) s retraced) in
           let able = upgradable known log scripts s plain retraced dated as_many run in (
             log,
             plain,
@@ -137,21 +145,25 @@ upgraded_to known text log scripts s version front threads retraced dated as_man
           let by = old.by in
           let here : found ≡ log = one_front known.plain text found log by.front front in
           is ∙ ap (λ (l : LogText). text_of (upgraded plain.history.rows l)) here
-          ∙ ap text_of (let able = upgradable known log scripts s plain retraced dated as_many (subst (λ (l : LogText). IsPlainRun (inputs_of l scripts) plain) here by.run) in able.same);
+          ∙ ap text_of
+          (let able = upgradable known log scripts s plain retraced dated as_many
+          (subst (λ (l : LogText). IsPlainRun (inputs_of l scripts) plain) here by.run) in able.same);
       refused = no_fault;
     }
   where
     first : is_other_version 1 text ≡ false
     first = known.plain.version text log 1 front ∙ ap (λ (v : ℕ). not (v == 1)) version
 
-    no_run : (fault : ReplayFault) → IsNoRun (is_other_version 1 text) text (length scripts) fault → IsNoReplay text (length scripts) fault
+    no_run : (fault : ReplayFault) → IsNoRun (is_other_version 1 text) text (length scripts) fault
+        → IsNoReplay text (length scripts) fault
     no_run fault h = subst (λ b. IsNoRun b text (length scripts) fault) first h
 
     unrefused_so : (fault : ReplayFault) → IsRefused text scripts fault → ⊥
     unrefused_so fault (found, plain, old, refused) =
         let by = old.by in
         let here : found ≡ log = one_front known.plain text found log by.front front in
-        let able = upgradable known log scripts s plain retraced dated as_many (subst (λ (l : LogText). IsPlainRun (inputs_of l scripts) plain) here by.run) in
+        let able = upgradable known log scripts s plain retraced dated as_many
+        (subst (λ (l : LogText). IsPlainRun (inputs_of l scripts) plain) here by.run) in
         none-some fault (sym able.clear ∙ (ap (λ (l : LogText). refusal_of l plain) (sym here) ∙ refused))
 
     no_fault : (fault : ReplayFault) → IsNoUpgrade text scripts fault → fault ≡ replay_fault.Memory
@@ -168,14 +180,16 @@ upgraded_to known text log scripts s version front threads retraced dated as_man
 
 -- ## Any run of scripts
 
-run_count : KnownOfThreads → (setup : Setup) (events : List Event) (s : State) → length (run setup events s).threads ≡ length s.threads
+run_count : KnownOfThreads → (setup : Setup) (events : List Event) (s : State)
+    → length (run setup events s).threads ≡ length s.threads
 run_count known setup [] s = refl
 run_count known setup (e ∷ events) s = run_count known setup events (happens setup e s) ∙ known.events.count setup s e
 
 -- what the log of its version 1 supplies leads to the run again
 run_retraced : KnownOfThreads → (input : Inputs) (events : List Event) (closed : Bool) → IsRunUnder input events
     → let log = run_log (in_version 1 input) events closed in
-    HasCame 1 (length input.scripts) log.records (last_of input events) × IsRetraced (inputs_of log input.scripts) (last_of input events)
+    HasCame 1 (length input.scripts) log.records (last_of input events)
+    × IsRetraced (inputs_of log input.scripts) (last_of input events)
 run_retraced known input events closed allowed =
     let setup = setup_of input in
     let first = first_state input in
@@ -193,7 +207,8 @@ run_retraced known input events closed allowed =
     } in (
       has,
       record {
-        begins = λ last ends. known.followed setup n limit.OBJECTS first_world s last (supply_of (inputs_of log input.scripts)) arises follows ends;
+        begins = λ last ends. known.followed setup n limit.OBJECTS first_world s last
+            (supply_of (inputs_of log input.scripts)) arises follows ends;
         rows = λ i. known.plain.rows setup n limit.OBJECTS first_world s arises i;
         back = λ i k g at. own_back 1 n log.records s has i k g at;
       },
@@ -208,7 +223,8 @@ any known input events closed text threads settings allowed front =
     let log = run_log (in_version 1 input) events closed in
     let s = last_of input events in
     let n = length input.scripts in
-    let arises : Arises (setup_of input) (first_state input) s = known.arises (setup_of input) n limit.OBJECTS first_world events in
+    let arises : Arises (setup_of input) (first_state input) s =
+    known.arises (setup_of input) n limit.OBJECTS first_world events in
     let dated : AreDated s.rows = known.dated (setup_of input) n limit.OBJECTS first_world s arises in
     let (has, retraced) = run_retraced known input events closed allowed in
     subst (IsUpgradedTo text input.scripts) (ap text_of (known.versions input events closed allowed))
@@ -231,10 +247,12 @@ plain known input one two is_one is_two =
       shows = refl;
     } in
     let two_log : text_of (run_log (in_version 2 input) events (all_true ended)) ≡ two.log =
-    ap text_of (made.log 2) ∙ ap (λ (p : Plain). p.log) (known.one_plain (in_version 2 input) (plain_of (in_version 2 input) n is_one.last) two again is_two) in
+    ap text_of (made.log 2) ∙ ap (λ (p : Plain). p.log)
+    (known.one_plain (in_version 2 input) (plain_of (in_version 2 input) n is_one.last) two again is_two) in
     let log = run_log (in_version 1 input) events (all_true ended) in
     let one_log : one.log ≡ text_of log = ap (λ (p : Plain). p.log) is_one.shows ∙ ap text_of (sym (made.log 1)) in
-    let is : IsLog log = known.run_spelled (in_version 1 input) events (all_true ended) is_one.threads is_one.settings made.allowed in
+    let is : IsLog log = known.run_spelled (in_version 1 input) events (all_true ended) is_one.threads is_one.settings
+    made.allowed in
     let spelled : Spells one.log log = record { range = is.range; each_good = is.each_good; spelled = one_log } in
     subst (IsUpgradedTo one.log input.scripts) two_log
     (any known input events (all_true ended) one.log is_one.threads is_one.settings made.allowed (inl spelled))
@@ -249,12 +267,15 @@ recorded known D state settings past own seen taken failures told actors later s
     let kept = faithful.kept in
     let s = kept.end in
     let fits : Fits (header_for settings (length actors)) m past own = unless_strayed run.stopped told not run.why in
-    let threads : length m.whole.threads ≡ length scripts = ap (λ (h : Header). h.threads) fits.0 ∙ as_many state actors scripts meant in
+    let threads : length m.whole.threads ≡ length scripts = ap (λ (h : Header). h.threads) fits.0
+    ∙ as_many state actors scripts meant in
     let log = took_log known D m kept taken failures run.stopped shows.finishes in
     let header : log.log.header ≡ header_of m.whole = log.header ∙ kept.header in
-    let supplied = supplied_by_own known.records state (is_some told) D m kept log.log past actors later scripts threads header log.records shows.rows shows.asked meant played in
+    let supplied = supplied_by_own known.records state (is_some told) D m kept log.log past actors later scripts threads
+    header log.records shows.rows shows.asked meant played in
     let back = back_by_own D m kept log.log scripts threads log.records in
-    let dated : AreDated s.rows = known.dated (setup_under (terms_with m.whole (own_of s))) (length m.whole.threads) limit.OBJECTS first_world s kept.ends.0 in
+    let dated : AreDated s.rows = known.dated (setup_under (terms_with m.whole (own_of s))) (length m.whole.threads)
+    limit.OBJECTS first_world s kept.ends.0 in
     let has = kept_came D m kept (length scripts) log.log.records threads log.records in
     let again : IsRetraced (inputs_of log.log scripts) s =
     retraced known D m kept (inputs_of log.log scripts) supplied back in
@@ -286,19 +307,29 @@ fault_in (Err fault) = fault
 fault_in (Ok replayed) = replay_fault.Memory
 
 pub refused_alike : KnownOfThreads → RefusedAlike
-refused_alike known text scripts (replay_fault.Log fault) first is h = inl (subst (λ b. IsNoRun b text (length scripts) (replay_fault.Log fault)) (sym first) h)
-refused_alike known text scripts replay_fault.Threads first is h = inl (subst (λ b. IsNoRun b text (length scripts) replay_fault.Threads) (sym first) h)
+refused_alike known text scripts (replay_fault.Log fault) first is h =
+    inl (subst (λ b. IsNoRun b text (length scripts) (replay_fault.Log fault)) (sym first) h)
+refused_alike known text scripts replay_fault.Threads first is h =
+    inl (subst (λ b. IsNoRun b text (length scripts) replay_fault.Threads) (sym first) h)
 refused_alike known text scripts replay_fault.Memory first is h = absurd is
 refused_alike known text scripts (replay_fault.EndOfLog i seen) first is h = absurd is
 refused_alike known text scripts (replay_fault.ClockFull seen) first is h = absurd is
 refused_alike known text scripts (replay_fault.Diverged i n seen) first is (log, played, by, tells) =
-    inr (log, played, record { version = version_is known.plain.version text log by.front first; by = by }, by_stop played.stop tells)
+    inr (
+      log,
+      played,
+      record { version = version_is known.plain.version text log by.front first; by = by },
+      by_stop
+          played.stop tells,
+    )
   where
     by_stop : (o : Option Stop) → Tells log played o (Err (replay_fault.Diverged i n seen))
-        → refusal o (first_unused log.header.threads log.records played.history.rows) played.transcripts ≡ Some (replay_fault.Diverged i n seen)
+        → refusal o (first_unused log.header.threads log.records played.history.rows) played.transcripts
+        ≡ Some (replay_fault.Diverged i n seen)
     by_stop None tells = by_unused (first_unused log.header.threads log.records played.history.rows) tells
       where
-        by_unused : (u : Option (ℕ × ℕ)) → Err (replay_fault.Diverged i n seen) ≡ ended played u → refusal None u played.transcripts ≡ Some (replay_fault.Diverged i n seen)
+        by_unused : (u : Option (ℕ × ℕ)) → Err (replay_fault.Diverged i n seen) ≡ ended played u
+            → refusal None u played.transcripts ≡ Some (replay_fault.Diverged i n seen)
         by_unused None e = cc
         by_unused (Some (j, m)) e = ap Some (sym (ap fault_in e))
     by_stop (Some (stop.Diverged j m)) tells = ap Some (sym (ap fault_in tells))

@@ -6,7 +6,8 @@ use Rattle.std.specs.Prelude.{◌≡◌, ◌==◌, ℕ, List, not}
 use Rattle.call_machine.specs.Covered.{HasSpelling, NoneDiverges, RecordsCame}
 use Rattle.machine.specs.RecordLaws.{RecordLaws}
 use Rattle.call_machine.specs.Plain.{OnePlainRun}
-use Rattle.call_machine.specs.RunLogs.{PlainIsMade, RunHasSpelling, RunRecordsCame, RunsOfBothVersions}
+use Rattle.call_machine.specs.RunLogs.{PlainIsMade, RunHasSpelling, RunRecordsCame}
+use Rattle.call_machine.specs.RunLogs.{RunsOfBothVersions}
 use Rattle.input_log.specs.Faults.{Fault, HasFault, is_other_version}
 use Rattle.input_log.specs.Fronts.{IsFront}
 use Rattle.input_log.specs.Grammar.{Spells}
@@ -15,10 +16,12 @@ use Rattle.input_log.specs.declared.log.LogText.{LogText}
 use Rattle.lock_model.specs.Came.{CameIsRows, FitsAlike, OutsideStays, OverUnderCame, PlainArises}
 use Rattle.lock_model.specs.Came.{PlainCount, PlainLeads, RepliesAreRows, SameUnderCame}
 use Rattle.lock_model.specs.Events.{EventLaws}
-use Rattle.lock_model.specs.Laws.{ArisesByRun, DatedOfArisen, EndedOrTurn, HolderHasTurn, PrefixLawOfCame}
+use Rattle.lock_model.specs.Laws.{ArisesByRun, DatedOfArisen, EndedOrTurn, HolderHasTurn}
+use Rattle.lock_model.specs.Laws.{PrefixLawOfCame}
 use Rattle.lock_model.specs.Laws.{PrefixLawOfFollowed, RunFollows, SomeEnd, UniqueEnd}
 use Rattle.thread_scripts.specs.ScriptPrograms.{ScriptsEnd}
 
+-- what is known of plain runs, of their logs and of the texts of logs
 pub record Known : Type 0 where
   -- plain runs, and those under what a log has of the outcomes that came
   pub keeps : (version : ℕ) → Keeps (as_logged version)
@@ -41,7 +44,8 @@ pub record Known : Type 0 where
   -- what a text spells
   pub one_value : (text : List ℕ) (a b : LogText) → Spells text a → Spells text b → a ≡ b
   pub one_fault : (text : List ℕ) (a b : Fault) → HasFault text a → HasFault text b → a ≡ b
-  pub no_fault : (text : List ℕ) (log : LogText) (fault : Fault) → Spells text log → HasFault text fault → ⊥
+  pub no_fault : (text : List ℕ) (log : LogText) (fault : Fault) → Spells text log
+      → HasFault text fault → ⊥
   pub version : (text : List ℕ) (log : LogText) (version : ℕ) → IsFront text log
       → is_other_version version text ≡ not (log.header.version == version)
 

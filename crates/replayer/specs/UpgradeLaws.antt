@@ -1,6 +1,7 @@
 -- Believed: a contract of the headline stands on it.
 -- The upgrade of the log that a run wrote: the log that it writes in version 2.
-use Rattle.std.specs.Prelude.{◌≡◌, ◌≢◌, ℕ, false, List, length, map, Bool, true, Option, Some, is_some, Err}
+use Rattle.std.specs.Prelude.{◌≡◌, ◌≢◌, ℕ, false, List, length, map, Bool, true, Option, Some}
+use Rattle.std.specs.Prelude.{is_some, Err}
 use Rattle.call_machine.specs.Covered.{IsCovered}
 use Rattle.call_machine.specs.History.{Past}
 use Rattle.call_machine.specs.Plain.{IsPlainRun, are_threads}
@@ -58,7 +59,8 @@ pub record IsUpgradedBy (rows : List HistoryRow) (text : List ℕ) (scripts : Li
   pub log : LogText
   pub front : IsFront text log
   pub to : IsUpgradedTo text scripts (text_of (upgraded rows log))
-  -- that is a log of version 2, whose records are by thread the outcomes of the rows, with the clocks
+  -- that is a log of version 2, whose records are by thread the
+  -- outcomes of the rows, with the clocks
   -- of their turns
   pub covers : IsCovered (record log.header { version = 2 }) rows (text_of (upgraded rows log))
 

@@ -10,7 +10,7 @@ use thiserror::Error;
 /// Why a replay did not come to its end. The last three have what each thread saw so far.
 #[derive(Debug, Drop, Error)]
 pub enum ReplayFault {
-    /// The bytes are no log, and none stands before the place where they are torn.
+    /// The bytes are not a log, and none stands before the place where they are torn.
     #[error("log: {0}")]
     Log(LogFault),
     /// The log is of another number of threads than there are scripts.

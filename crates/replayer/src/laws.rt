@@ -39,7 +39,7 @@ fn known()
 /// the run stopped because an outcome did not answer what was asked, that outcome is not in the log:
 /// the replay goes on as far as the outcomes that came lead, and ends where a thread that has the
 /// turn is stuck; what each thread saw in the run is a beginning of what it sees there. A replay may
-/// also want memory, which says nothing.
+/// also run out of memory, which says nothing.
 pub fn own_log()
     ensures { OwnLogLaw }
 {
@@ -49,9 +49,9 @@ pub fn own_log()
 /// A replay of the log that a recorded run wrote gives every thread the same replies. Of a run of
 /// `recorder::record_actors` whose log's header was taken and whose stop is not `Strayed`, and for
 /// scripts that the actors' meanings begin: what each thread saw is a beginning of what the replay of
-/// the bytes that the sink took tells, which diverges nowhere; and where nothing stopped the run, the
-/// replay comes to its end with the same transcripts and the same history. A replay may also want
-/// memory, which says nothing. What is asked of the run are the clauses `run` and `steps` of
+/// the bytes that the sink took gives, which diverges nowhere; and where nothing stopped the run, the
+/// replay comes to its end with the same transcripts and the same history. A replay may also run
+/// out of memory, which says nothing. What is asked of the run are the clauses `run` and `steps` of
 /// `record_actors`.
 pub fn recorded_runs_are_replayed<A: Actor, O: Outside>()
     ensures { RecordedRunsAreReplayed O.Door A.state }
@@ -70,7 +70,7 @@ pub(crate) fn runs_agree_with_replays<A: Actor>()
 /// is for each run of the lock machine under scripts, in whatever order its events come, and for each
 /// text with its log at the front, as one that is torn in its last item (`any`); and for plain runs
 /// (`plain`). A log of version 1 that a replay refuses as `Log`, `Threads` or `Diverged` is refused
-/// so (`refused`). An upgrade may also want memory, which says nothing.
+/// so (`refused`). An upgrade may also run out of memory, which says nothing.
 pub fn runs_are_upgraded()
     ensures any { RunsAreUpgraded }
     ensures plain { PlainRunsAreUpgraded }
@@ -82,7 +82,7 @@ pub fn runs_are_upgraded()
 /// The upgrade of what a recorded run of version 1 wrote has the same records in the same order, each
 /// with the clock of the turn that its row has in the run's own history: it is a log of version 2 that
 /// covers that history. It is asked of the run what `recorded_runs_are_replayed` asks. An upgrade may
-/// also want memory, which says nothing.
+/// also run out of memory, which says nothing.
 pub fn recorded_runs_are_upgraded<A: Actor, O: Outside>()
     ensures { RecordedRunsAreUpgraded O.Door A.state }
 {

@@ -1,11 +1,11 @@
-//! Runs scripts again by the log of what came from outside, for whoever must repeat a recorded run:
-//! with no host file and no network, on one thread, or each in a thread of its own.
+//! Runs scripts again by the log of what came from outside, for whoever must repeat a recorded run.
+//! It needs no host file and no network, and takes one thread, or one for each script.
 //!
 //! [`replay`] runs scripts on the plain schedule, and [`replay_threads`] runs actors as the
 //! recorder does; each call that goes outside takes the next record of its thread. By the law
 //! `recorded_runs_are_replayed` the log of a recorded run that nothing stopped, replayed with the
-//! scripts of that run, gives every thread the same replies, unless memory is wanted. Of a log that
-//! is torn behind its header the records before the tear count. A [`ReplayFault`] says why a replay
+//! scripts of that run, gives every thread the same replies, unless memory runs out. Of a log that
+//! is torn after its header the records before the tear count. A [`ReplayFault`] says why a replay
 //! did not come to its end: no log, another number of threads, no memory, or a stop, `EndOfLog`,
 //! `Diverged` or `ClockFull`, with what each thread saw so far.
 //!
@@ -20,7 +20,7 @@
 //! let script = parse(alloc, b"host_open nofile r\nopen /b rw create\n")?;
 //! match replay(alloc, LOG, vec![in alloc; script]?) {
 //!     Ok(replayed) => assert!(rt; replayed.history.rows().len() == 2),
-//!     // Only memory can have been wanted: the script is that of the log.
+//!     // Only memory can have run out: the script is that of the log.
 //!     Err(fault) => assert!(rt; matches!(fault, ReplayFault::Memory)),
 //! }
 //! ```

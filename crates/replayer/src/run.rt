@@ -15,10 +15,10 @@ use thread_scripts::Script;
 /// Runs scripts on the plain schedule, where what comes from outside is what the log has: each call that goes
 /// outside takes the next record of its thread. It opens nothing and waits for nobody.
 ///
-/// The settings are those of the log's header. Of a log that is torn behind its header the records before the tear
-/// count. What was decoded is looked at first, then the number of scripts, which is that of the log's threads. Where
-/// a thread that has the turn lacks its next outcome, or where an outcome does not answer what was asked, the replay
-/// ends there, with what each thread saw so far; so it does, `Diverged`, where all threads have ended and a record
+/// The settings are those of the log's header. Of a log that is torn after its header the records before the tear
+/// count. A fault of the log is reported first, then a number of scripts that is not that of the log's threads. When
+/// a thread that has the turn lacks its next outcome, or when an outcome does not answer what was asked, the replay
+/// ends there, with what each thread saw so far. It ends as `Diverged`, too, when all threads have ended and a record
 /// was not used: at the least such thread and its first such record.
 pub fn replay(alloc: Global, log: &[u8], scripts: Vec<Script>) -> Result<Replayed, ReplayFault>
     ensures { Replays log.now scripts.items result }
@@ -34,9 +34,9 @@ pub struct RunByLog {
     pub plain: Plain,
 }
 
-/// Runs scripts as [`replay`] does, and gives the run as far as it came, with its history: where
+/// Runs scripts as [`replay`] does, and returns the run as far as it came, with its history. When
 /// nothing stopped it and a record was not used, its stop is `Diverged`. A fault is that of the log,
-/// another number of threads, or no memory.
+/// another number of threads, or lack of memory.
 pub fn replay_run(alloc: Global, log: &[u8], scripts: Vec<Script>) -> Result<RunByLog, ReplayFault>
     ensures run { IfOk result (λ by. IsReplayRun log.now scripts.items by.log by.plain) }
     ensures fault { IfErr result (IsNoReplay log.now (length scripts.items)) }
@@ -72,7 +72,7 @@ pub fn run_by_text(
     }
 }
 
-// What is told of the plain run by a log.
+// What is returned for the plain run by a log.
 fn told(log: &LogText, plain: Plain) -> Result<Replayed, ReplayFault>
     requires log { IsLog log.now }
     requires run { IsRunOf log.now plain }

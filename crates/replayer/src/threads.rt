@@ -30,29 +30,37 @@ pub struct NotReplayed<A: Drop> {
     pub actors: Vec<A>,
 }
 
-/// Runs actors again by a log, each in a thread of its own, where what comes from outside is what the log has: each call
-/// that goes outside takes the next record of its thread. Nothing is opened, and no thread waits for anything but its
-/// turn.
+/// Runs actors again by a log, each in a thread of its own, where what comes from outside is what the log has: each
+/// call that goes outside takes the next record of its thread. Nothing is opened, and no thread waits for anything but
+/// its turn.
 ///
-/// It is the run that `recorder::record_actors` makes over [`LogDoors`], under the settings of the log's header, and all
-/// that is promised of such a run is promised of this one. It writes a log of its own into a sink with room for all that
-/// the log has and an end, so it never stops for its sink (`sink`). Of a log that is torn after its header the records
-/// before the tear count.
+/// It is the run that `recorder::record_actors` makes over [`LogDoors`], under the settings of the log's header, and
+/// all that is promised of such a run is promised of this one. It writes a log of its own into a sink with room for all
+/// that the log has and an end, so it never stops for its sink (`sink`). Of a log that is torn after its header the
+/// records before the tear count.
 ///
 /// Unless the stop is `Strayed`, what each thread sees is a beginning of what it sees in the [`crate::replay`] of the
 /// log; where nothing stopped the run, it is exactly that. Where `replay` ends at an outcome that does not answer what
-/// was asked, it may be more: a beginning of the plain run in which the thread of that outcome stays where it is and the
-/// others go on. How far a run comes that is stopped depends on which thread is the first to stop it. Where all threads
-/// have ended and a record was not used, the stop is `Diverged`, at the least such thread and its first such record.
-/// Where the bytes are not a log, or one of another number of threads, or where there is no memory, the actors are
-/// handed back.
+/// was asked, it may be more: a beginning of the plain run in which the thread of that outcome stays where it is and
+/// the others go on. How far a run comes that is stopped depends on which thread is the first to stop it. Where all
+/// threads have ended and a record was not used, the stop is `Diverged`, at the least such thread and its first such
+/// record. Where the bytes are not a log, or one of another number of threads, or where there is no memory, the actors
+/// are handed back.
 pub fn replay_threads<A: Actor + Send + Drop, R: Threads + Wait + Sync>(
     rt: &R,
     alloc: Global,
     log: &[u8],
     actors: Vec<A>,
 ) -> Result<Ended<A, LogDoors, MemorySink>, NotReplayed<A>>
-    ensures replayed { IfOk result (λ e. IsReplayedBy A.state log.now actors.items (record { history = e.history; own = e.own.items; transcripts = e.transcripts; actors = e.actors.items; doors = e.outsides.items }) e.sink.bytes e.sink.failures e.stop) }
+    ensures replayed { IfOk result
+        (λ e. IsReplayedBy A.state log.now actors.items
+        (record {
+          history = e.history;
+          own = e.own.items;
+          transcripts = e.transcripts;
+          actors = e.actors.items;
+          doors = e.outsides.items;
+        }) e.sink.bytes e.sink.failures e.stop) }
     ensures sink { IfOk result (λ e. e.stop ≢ Some stop.Sink) }
     ensures back { IfErr result (λ n. n.actors ≡ actors) }
     ensures fault { IfErr result (λ n. IsNoReplay log.now (vec_len actors) n.fault) }
@@ -116,14 +124,21 @@ fn run_by<A: Actor + Send + Drop, R: Threads + Wait + Sync>(
     requires doors { supplied.doors.items ≡ doors_by (vec_len actors) supplied.log.records }
     requires taken { supplied.sink.bytes ≡ [] }
     requires sound { supplied.sink.failures ≡ 0 }
-    ensures run { IfOk result (λ e. EndsBy A.state supplied.log actors.items (record { history = e.history; own = e.own.items; transcripts = e.transcripts; actors = e.actors.items; doors = e.outsides.items }) e.sink.bytes e.sink.failures e.stop) }
+    ensures run { IfOk result (λ e. EndsBy A.state supplied.log actors.items
+        (record {
+          history = e.history;
+          own = e.own.items;
+          transcripts = e.transcripts;
+          actors = e.actors.items;
+          doors = e.outsides.items;
+        }) e.sink.bytes e.sink.failures e.stop) }
     ensures back { IfErr result (λ n. n.actors ≡ actors) }
     ensures memory { IfErr result (λ n. n.fault ≡ replay_fault.Memory) }
 {
     let Supplied { log, doors, sink } = supplied;
     match record_actors(rt, alloc, actors, doors, sink, log.header.settings()) {
         Ok(ended) => Ok(told(&log, ended)),
-        // A log has the settings of a run, and there are doors for each thread, so what was refused wanted memory.
+        // A log has the settings of a run, and there are doors for each thread, so only memory ran out.
         Err(refused) => Err(NotReplayed {
             fault: ReplayFault::Memory,
             actors: refused.actors,
@@ -137,7 +152,11 @@ fn told<A: Drop>(
     ended: Ended<A, LogDoors, MemorySink>,
 ) -> Ended<A, LogDoors, MemorySink>
     requires log { IsLog log.now }
-    ensures { result ≡ record ended { stop = stop_told ended.stop (first_unused log.now.header.threads log.now.records ended.history.rows) } }
+    ensures { result ≡ record ended {
+      stop =
+          stop_told ended.stop (first_unused log.now.header.threads log.now.records
+          ended.history.rows);
+    } }
 {
     let mut ended = ended;
     ended.stop = match ended.stop {

@@ -12,15 +12,17 @@ use Rattle.worker_notes.specs.declared.own.Brought.{Brought}
 use Rattle.worker_notes.specs.declared.own.Noted.{Noted}
 use Rattle.worker_notes.specs.declared.own.Own.{Own}
 
+-- the steps that were noted, in order
 abbrev pub steps_noted : List Noted → List Step
 steps_noted [] = []
 steps_noted (n ∷ notes) = n.step ∷ steps_noted notes
 
--- something, if it came, before what is behind it
+-- something, if it came, before what is after it
 abbrev pub before : {A : Type 0} → Option A → List A → List A
 before (Some x) xs = x ∷ xs
 before None xs = xs
 
+-- the replies that were noted, in order
 abbrev pub replies_noted : List Noted → List Reply
 replies_noted [] = []
 replies_noted (n ∷ notes) = before n.reply (replies_noted notes)

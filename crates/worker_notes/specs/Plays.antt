@@ -1,6 +1,7 @@
 -- Believed: a contract of the headline stands on it.
 -- The steps that an actor's meaning gives, under the replies that were noted.
-use Rattle.std.specs.Prelude.{◌≡◌, ◌⊎◌, Bool, true, false, List, [], ◌∷◌, Option, Some, None, is_some}
+use Rattle.std.specs.Prelude.{◌≡◌, ◌⊎◌, Bool, true, false, List, [], ◌∷◌, Option, Some, None}
+use Rattle.std.specs.Prelude.{is_some}
 use Rattle.posix_terms.specs.Calls.{Call}
 use Rattle.posix_terms.specs.declared.reply.Reply.{Reply}
 use Rattle.thread_scripts.specs.Meaning.{next_of}
@@ -16,6 +17,7 @@ abbrev pub reply_after : Option Reply → List Noted → Option Reply
 reply_after last [] = last
 reply_after last (n ∷ notes) = reply_after n.reply notes
 
+-- the reply to the last step that was noted, if it came
 abbrev pub last_reply : List Noted → Option Reply
 last_reply notes = reply_after None notes
 
@@ -60,10 +62,11 @@ open_call (n ∷ m ∷ notes) = open_call (m ∷ notes)
 
 -- ## Where replies stand
 
--- a step has a reply just where it is a call
+-- a step has a reply exactly when it is a call
 abbrev pub IsHeard : Noted → Type 0
 IsHeard n = is_some n.reply ≡ is_call n.step
 
+-- so it is of each of these steps
 abbrev pub AreHeard : List Noted → Type 0
 AreHeard [] = Unit {0}
 AreHeard (n ∷ notes) = IsHeard n × AreHeard notes

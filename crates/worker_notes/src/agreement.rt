@@ -1,5 +1,6 @@
 ghost use Rattle.std.specs.Prelude.{◌≡◌, ◌↔◌, ◌∷◌, [], IsTrue, MatchOption, Some, is_some};
-ghost use Rattle.worker_notes.specs.Agrees.{Agree, AgreesWith, brought_by, brought_in, replies_in, replies_noted, steps_noted};
+ghost use Rattle.worker_notes.specs.Agrees.{Agree, AgreesWith, brought_by, brought_in, replies_in};
+ghost use Rattle.worker_notes.specs.Agrees.{replies_noted, steps_noted};
 
 use crate::own::{Brought, Noted, Own};
 use crate::requests::{is_request_of, kind_asked};
@@ -7,7 +8,8 @@ use crate::same::{same_outcome, same_step};
 use lock_machine::Asked;
 use posix_terms::{PackedRow, Reply, Step};
 
-/// Whether what the workers noted is what a history says of their threads: the steps that each asked, the replies of its rows, and what
+/// Whether what the workers noted is what a history says of their threads:
+/// the steps that each asked, the replies of its rows, and what
 /// these brought from outside, each with the request of its call.
 #[tactic(auto, using(crate::proofs::Agreeing::agree_more, crate::proofs::Agreeing::agree_count))]
 pub fn agree(rows: &[PackedRow], asked: &Asked, own: &[Own]) -> bool
@@ -69,9 +71,10 @@ fn are_replies(thread: usize, rows: &[PackedRow], notes: &[Noted]) -> bool
     next_reply(rest).is_none()
 }
 
-// The first reply of the notes, with the notes behind it.
+// The first reply of the notes, with the notes after it.
 fn next_reply(notes: &[Noted]) -> Option<(&Reply, &[Noted])>
-    ensures { MatchOption result (replies_noted notes.now ≡ []) (λ p. replies_noted notes.now ≡ p.0.now ∷ replies_noted p.1.now) }
+    ensures { MatchOption result (replies_noted notes.now ≡ [])
+        (λ p. replies_noted notes.now ≡ p.0.now ∷ replies_noted p.1.now) }
 {
     let mut rest = notes;
     while let Some((note, more)) = rest.split_first() {

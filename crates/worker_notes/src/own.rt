@@ -18,7 +18,8 @@ pub struct Brought {
     pub outcome: Outcome,
 }
 
-/// What the worker of one thread noted itself, in order: the steps that the machine took with their replies, and the outcomes that it recorded.
+/// What the worker of one thread noted itself, in order: the steps that the
+/// machine took with their replies, and the outcomes that it recorded.
 #[derive(Debug, Drop)]
 pub struct Own {
     pub steps: Vec<Noted>,

@@ -2,7 +2,7 @@ ghost use Rattle.std.specs.Prelude.{◌≡◌, ◌↔◌, IsTrue};
 
 use posix_terms::{Call, Outcome, Step, equal_ones_are_the_same};
 
-// Each says that `==` tells which values are equal.
+// Each says that `==` decides which values are equal.
 
 pub fn same_call(one: &Call, other: &Call) -> bool
     ensures { IsTrue result ↔ (one.now ≡ other.now) }

@@ -13,7 +13,8 @@ unreachable-requires c =
     let front : IsFront c.args.text.now log = search rules in
     let is : IsLog log = front_is_log c.args.text.now log front in
     let threads : log.header.threads ≡ length c.args.scripts.items = search rules in
-    let fit : are_threads (inputs_of log c.args.scripts.items) ≡ true = threads_fit log.header (length c.args.scripts.items) log.records is.range threads in
+    let fit : are_threads (inputs_of log c.args.scripts.items) ≡ true =
+    threads_fit log.header (length c.args.scripts.items) log.records is.range threads in
     search rules
 
 pub unreachable-requires-in-Err-Settings : goal.unreachable-requires-in-Err-Settings

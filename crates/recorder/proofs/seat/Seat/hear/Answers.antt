@@ -7,7 +7,17 @@ invariant_of-self g c =
     let s = c.self.inside in
     rw c.note_reply.ensures
     (seated_heard g.O.Outside.gives g.O.Outside.given g.O.Outside.failures
-    (record { from = g.A.Actor.state s.actor_from.value; began = s.outside_from.value; now = g.A.Actor.state s.actor; outside = s.outside; steps = s.own.steps.items; brought = s.own.outcomes.items; ended = s.own.ended; number = s.number; ahead = s.ahead })
+    (record {
+      from = g.A.Actor.state s.actor_from.value;
+      began = s.outside_from.value;
+      now = g.A.Actor.state s.actor;
+      outside = s.outside;
+      steps = s.own.steps.items;
+      brought = s.own.outcomes.items;
+      ended = s.own.ended;
+      number = s.number;
+      ahead = s.ahead;
+    })
     c.args.reply (rw (← c.self.view_is) at c.requires.calling) c.self.invariant)
 
 pub returns-clause-ready : goal.returns-clause-ready
