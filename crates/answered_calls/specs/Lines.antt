@@ -45,5 +45,6 @@ next_line_of texts (Ok script) replies =
     option_map (line_of_place texts) (next_place script replies)
 next_line_of texts (Err fault) replies = None
 
+-- the line of the next call that the script with this text makes after these replies, if any
 abbrev pub next_call_line : List ℕ → List Reply → Option ℕ
 next_call_line text replies = next_line_of (lines_of text) (script_of text) replies

@@ -2,8 +2,8 @@
 //! answer, for whoever shows a run.
 //!
 //! [`answered_calls`] gives them from what the threads saw and the history of all turns. Which line
-//! of its script made a call follows from the replies that the thread had before. [`next_call_line`]
-//! is the line of a call that has no reply yet.
+//! of its script made a call follows from the replies that the thread had before.
+//! [`next_call_line`] is the line of a call that has no reply yet.
 #![tactic(auto)]
 
 mod answered;

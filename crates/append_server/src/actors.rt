@@ -45,7 +45,7 @@ pub(crate) fn server(alloc: Global, path: &str) -> Result<Vec<Line>, AllocError>
 pub(crate) fn client(alloc: Global, text: &str) -> Result<Vec<Line>, AllocError> {
     let text = SharedBytes::from_slice(alloc, text.as_bytes())?;
     let mut lines = Vec::new(alloc);
-    // The order of turns comes from clocks: with so much work the client comes behind the server's first calls.
+    // The order of turns comes from clocks: with so much work the client comes after the server's first calls.
     lines.push(Line::Work(1_000))?;
     lines.push(fstat(LISTENER))?;
     lines.push(connect(held(0)))?;
@@ -56,8 +56,10 @@ pub(crate) fn client(alloc: Global, text: &str) -> Result<Vec<Line>, AllocError>
     Ok(lines)
 }
 
-// The scripts of both: the client is thread 0, and the server thread 1. An accept that waits has the table at each of its turns, and of two
-// threads that come at the same clock the one with the smaller number is first; so a server stands behind those that it serves.
+// The scripts of both: the client is thread 0, and the server thread 1. An
+// accept that waits has the table at each of its turns, and of two
+// threads that come at the same clock the one with the smaller number is
+// first; so a server stands after those that it serves.
 pub(crate) fn scripts(alloc: Global, path: &str) -> anyhow::Result<Vec<Script>> {
     let mut scripts = Vec::new(alloc);
     scripts.push(script(client(alloc, "hello from a client")?)?)?;

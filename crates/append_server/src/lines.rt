@@ -3,7 +3,8 @@ ghost use Rattle.std.specs.Prelude.{◌<◌};
 use posix_terms::{Access, Call, OpenFlags, SharedBytes, ShutdownHow};
 use thread_scripts::{Data, Line, Number, NumberRegister, Register};
 
-// The lines of this program, each under the name of its call. A descriptor is a number that the script knows, or a register that has it.
+// The lines of this program, each under the name of its call. A descriptor is
+// a number that the script knows, or a register that has it.
 
 pub(crate) fn register(index: usize) -> NumberRegister
     requires { index < 16 }

@@ -1,7 +1,10 @@
-//! A small server that appends what it reads from a stream to a host file, and its client: the model for whoever embeds the recorder.
+//! A small server that appends what it reads from a stream to a host file,
+//! and its client: the model for whoever embeds the recorder.
 //!
-//! The two are actors made in code (`actors`), each with a thread of its own. Their run is recorded over the real host, into a log in
-//! memory (`run`). Then the host file is removed, and the log is replayed: both threads see the same again, with no file and no network.
+//! The two are actors made in code (`actors`), each with a thread of its
+//! own. Their run is recorded over the real host, into a log in
+//! memory (`run`). Then the host file is removed, and the log is replayed:
+//! both threads see the same again, with no file and no network.
 #![tactic(auto)]
 
 mod actors;

@@ -19,7 +19,8 @@ const SETTINGS: Settings = Settings {
     version: 2,
 };
 
-// So many bytes of the log there is room for. Where it runs out the run stops, and the log is good up to its last whole record.
+// So many bytes of the log there is room for. Where it runs out the run
+// stops, and the log is good up to its last whole record.
 const LOG_ROOM: usize = 65_536;
 
 // What is left of a recorded run: what both threads saw, the log, and why it stopped, if it did.

@@ -61,8 +61,8 @@ abbrev pub ReadPrints : List (List ℕ) → SourceTexts → Printed → Type 0
 ReadPrints paths (texts.Read read) printed = TextsPrint paths read.items printed
 ReadPrints paths (texts.Fault fault) printed = printed ≡ fault
 
--- What `detio check` prints for these sources. A script that is bad is no fault: the faults are the
--- number of scripts, and one that cannot be read
+-- What `detio check` prints for these sources. A script that is bad is not a fault: the faults are
+-- the number of scripts, and one that cannot be read
 abbrev pub CheckPrints : List (List ℕ × Option (List ℕ)) → Printed → Type 0
 CheckPrints sources printed =
     (read : SourceTexts) × IsRead sources read × ReadPrints (map (λ s. s.0) sources) read printed

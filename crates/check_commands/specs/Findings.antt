@@ -20,14 +20,17 @@ abbrev pub position_text : List ℕ → ℕ → ℕ → List ℕ
 position_text path line column =
     path +++ codes ":" +++ decimal line +++ codes ":" +++ decimal column +++ codes ": "
 
+-- what is printed for a bad line: where its mistake stands, and what it is
 unfoldable pub bad_line_text : List ℕ → BadLine → List ℕ
 bad_line_text path bad =
     position_text path bad.number bad.mistake.column +++ mistake_text bad.mistake
 
+-- what is printed for the bad lines of a script, in order
 abbrev pub bad_lines_text : List ℕ → List BadLine → List ℕ
 bad_lines_text path [] = []
 bad_lines_text path (bad ∷ others) = bad_line_text path bad ++ bad_lines_text path others
 
+-- the words after the number of the bad lines that are not shown
 abbrev pub more_words : ℕ → List ℕ
 more_words count = if count == 1 then codes " more bad line\n" else codes " more bad lines\n"
 
@@ -36,10 +39,12 @@ abbrev pub left_out_text : List ℕ → ℕ → List ℕ
 left_out_text path count =
     if count == 0 then [] else path +++ codes ": " +++ decimal count +++ more_words count
 
+-- the column of a word, and the first where there is none
 abbrev pub column_of : Option PlacedWord → ℕ
 column_of None = 1
 column_of (Some word) = word.column
 
+-- the text of a word, and nothing where there is none
 abbrev pub text_of : Option PlacedWord → List ℕ
 text_of None = []
 text_of (Some word) = word.text.now
@@ -49,22 +54,27 @@ abbrev pub warning_head : List ℕ → ActingLine → ℕ → List ℕ
 warning_head path l word =
     position_text path l.number (column_of (slice_get l.words.items word)) +++ codes "warning: "
 
+-- the words before the name of a label that is not used
 unfoldable pub unused_words : List ℕ
 unused_words = codes "no line jumps to the label "
 
+-- that no line jumps to the label with this name
 abbrev pub label_words : List ℕ → List ℕ
 label_words name = unused_words +++ name +++ codes "\n"
 
+-- what is printed for a warning at a line of a script
 abbrev pub warning_text : List ℕ → Concern → ActingLine → List ℕ
 warning_text path concern.UnusedLabel l =
     warning_head path l 1 +++ label_words (text_of (slice_get l.words.items 1))
 warning_text path concern.NeverReached l =
     warning_head path l 0 +++ codes "this line is never reached\n"
 
+-- what is printed for a line, and nothing where there is none
 abbrev pub if_there : (ActingLine → List ℕ) → Option ActingLine → List ℕ
 if_there text None = []
 if_there text (Some l) = text l
 
+-- what is printed for the warnings of a script, in order
 abbrev pub warnings_text : List ℕ → List ActingLine → List Warning → List ℕ
 warnings_text path lines [] = []
 warnings_text path lines (w ∷ others) =

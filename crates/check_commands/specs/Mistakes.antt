@@ -14,6 +14,7 @@ use Rattle.script_checks.specs.declared.operand.FlagSet.TheVariants as flags
 use Rattle.script_checks.specs.declared.operand.Operand.{Operand}
 use Rattle.script_checks.specs.declared.operand.Operand.TheVariants as operand
 
+-- what an operand of each type may be, in words
 abbrev pub operand_words : Operand → List ℕ
 operand_words operand.Number = codes "a number or a register r0 to r15"
 operand_words operand.Amount = codes "a number from 0 to 1000000"
@@ -28,11 +29,13 @@ operand_words operand.HowToShut = codes "read, write or both"
 operand_words operand.NewLabel = codes "a label of 1 to 14 lower-case letters and digits"
 operand_words operand.KnownLabel = codes "a label of this script"
 
+-- which flags may stand there, in words
 abbrev pub flag_words : FlagSet → List ℕ
 flag_words flags.Open = codes "create, excl, trunc, append or nonblock, each at most once,"
 flag_words flags.Host = codes "create, trunc or append, each at most once,"
 flag_words flags.Status = codes "append or nonblock, each at most once,"
 
+-- what was expected, in words
 unfoldable pub expected_text : Expected → List ℕ
 expected_text expected.Ascii = codes "an ASCII character"
 expected_text expected.Visible = codes "a visible ASCII character or a space"
@@ -64,6 +67,7 @@ byte_name b =
     else if b == 13 then codes ", a carriage return,"
     else []
 
+-- what was found, in words
 unfoldable pub found_text : Found → List ℕ
 found_text (found.Word word) = quoted word.now +++ codes " stands there"
 found_text (found.Byte b) =

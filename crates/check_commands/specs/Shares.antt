@@ -11,10 +11,12 @@ use Rattle.check_commands.specs.Findings.{warning_head}
 use Rattle.check_commands.specs.declared.scripts.ScriptPlace.{ScriptPlace}
 use Rattle.check_commands.specs.declared.scripts.Scripts.{Scripts}
 
+-- the path of a script, and nothing where there is none
 abbrev pub path_of : Option ScriptPlace → List ℕ
 path_of None = []
 path_of (Some place) = place.path.now
 
+-- the paths of these scripts, each after a comma
 abbrev pub more_paths : List ScriptPlace → List ℕ → List ℕ
 more_paths places [] = []
 more_paths places (i ∷ others) =
@@ -25,12 +27,15 @@ abbrev pub paths_text : List ScriptPlace → List ℕ → List ℕ
 paths_text places [] = []
 paths_text places (i ∷ others) = path_of (slice_get places i) ++ more_paths places others
 
+-- the word before the number of a descriptor
 unfoldable pub descriptor_word : List ℕ
 descriptor_word = codes "descriptor "
 
+-- a descriptor, by its number
 abbrev pub descriptor_text : ℤ → List ℕ
 descriptor_text n = descriptor_word +++ signed_decimal n
 
+-- the words between a descriptor and the paths of the scripts that name it
 unfoldable pub shared_words : List ℕ
 shared_words = codes " is named by more than one script: "
 
@@ -45,21 +50,25 @@ shared_line places s at l word =
     warning_head at.path.now l word ++ descriptor_text s.number
     ++ sharing_text places s.scripts.items
 
+-- the line of one where this script has such a line, and nothing where it has none
 abbrev pub if_line : List ScriptPlace → SharedDescriptor → ScriptPlace → ℕ → Option ActingLine
     → List ℕ
 if_line places s at word None = []
 if_line places s at word (Some l) = shared_line places s at l word
 
+-- the line of one where this script names it first, and nothing where it does not
 abbrev pub if_used : List ScriptPlace → SharedDescriptor → ScriptPlace → Option (ℕ × ℕ) → List ℕ
 if_used places s at None = []
 if_used places s at (Some found) = if_line places s at found.1 (slice_get at.lines.items found.0)
 
+-- the line of one for a script that is there, and nothing where none is
 abbrev pub if_there : List ScriptPlace → SharedDescriptor → Option (List Line) → Option ScriptPlace
     → List ℕ
 if_there places s None at = []
 if_there places s (Some script) None = []
 if_there places s (Some script) (Some at) = if_used places s at (first_use_from 0 s.number script)
 
+-- the line of one for the script with this number, and nothing where no script is given
 abbrev pub if_named : Scripts → SharedDescriptor → Option ℕ → List ℕ
 if_named scripts s None = []
 if_named scripts s (Some i) =
@@ -70,6 +79,7 @@ if_named scripts s (Some i) =
 abbrev pub shared_text : Scripts → SharedDescriptor → List ℕ
 shared_text scripts s = if_named scripts s (slice_get s.scripts.items 0)
 
+-- the lines of these descriptors, in order
 abbrev pub shared_texts : Scripts → List SharedDescriptor → List ℕ
 shared_texts scripts [] = []
 shared_texts scripts (s ∷ others) = shared_text scripts s ++ shared_texts scripts others

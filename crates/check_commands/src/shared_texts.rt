@@ -2,7 +2,8 @@ ghost use Rattle.std.specs.Prelude.{◌≡◌, ◌++◌, IfOk, OnOk, List, slice
 ghost use Rattle.std.specs.Fmt.{signed_decimal};
 ghost use Rattle.script_checks.specs.Sharing.{AreAllShared, first_use_from};
 ghost use Rattle.script_checks.specs.declared.descriptors.SharedDescriptor.{SharedDescriptor};
-ghost use Rattle.check_commands.specs.Shares.{descriptor_text, descriptor_word, if_line, if_there, if_used, more_paths, path_of};
+ghost use Rattle.check_commands.specs.Shares.{descriptor_text, descriptor_word, if_line, if_there};
+ghost use Rattle.check_commands.specs.Shares.{if_used, more_paths, path_of};
 ghost use Rattle.check_commands.specs.Shares.{paths_text, shared_line, shared_text, shared_texts};
 ghost use Rattle.check_commands.specs.Shares.{shared_words, sharing_text};
 

@@ -49,7 +49,7 @@ pub fn run_shown(
     })
 }
 
-// What is to be printed on standard output: the run, held to what the texts expect if that is asked.
+// What goes to standard output: the run, held to what the texts expect if that is asked.
 fn run_held(
     alloc: Global,
     options: RunOptions,

@@ -44,7 +44,8 @@ fn log_read<R: TextReader + Drop>(
     log: Bytes,
     sources: Vec<Source<'_, R>>,
 ) -> Result<ToReplay, AllocError>
-    ensures { IfOk result (LogIsRead log (map (λ s. (s.path.now, R.remaining s.reader)) sources.entry.items)) }
+    ensures { IfOk result (LogIsRead log
+        (map (λ s. (s.path.now, R.remaining s.reader)) sources.entry.items)) }
 {
     match read_all(alloc, sources) {
         Ok(texts) => Ok(ToReplay::Texts(log, texts)),

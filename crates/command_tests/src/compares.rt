@@ -23,7 +23,8 @@ const GOOD: Device = Device::Text(b"end\n");
 
 const BAD: Device = Device::Text(b"x\n");
 
-// The first fault counts: the number of scripts, what cannot be read, with the logs before the scripts, a script, the first log,
+// The first fault counts: the number of scripts, what cannot be read,
+// with the logs before the scripts, a script, the first log,
 // the second.
 const FAULTS: &[(Device, Device, &[Device], u8, &str)] = &[
     (

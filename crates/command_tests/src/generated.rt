@@ -10,7 +10,8 @@ use std::sync::Wait;
 use std::test::Fail;
 use std::thread::Threads;
 
-// Lines of which scripts are made: host files that all threads share, so that what comes of a call depends on what others did meanwhile, a
+// Lines of which scripts are made: host files that all threads share, so that
+// what comes of a call depends on what others did meanwhile, a
 // listener to which nobody connects, a port at which nobody listens, and files and pipes in memory.
 const LINES: &[&str] = &[
     "host_open /tmp/detio_generated_a rw create\n",

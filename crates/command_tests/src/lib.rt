@@ -1,5 +1,6 @@
 //! Tests of what the commands read, print and record, over devices, lists and the host, where no example can show it:
-//! what scripts and logs in files print is in `examples/`. They stand in a crate of their own: rt proves a crate once more
+//! what scripts and logs in files print is in `examples/`. They stand
+//! in a crate of their own: rt proves a crate once more
 //! from nothing with its tests.
 #![tactic(auto)]
 

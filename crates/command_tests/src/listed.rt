@@ -47,7 +47,8 @@ fn short_write(alloc: Global) -> Result<Outcomes, AllocError> {
 // One outside, which has these outcomes.
 fn outside(alloc: Global, list: Outcomes) -> Result<Vec<ScriptDoors<NoGate>>, AllocError>
     ensures one { IfOk result (λ o. length o.items ≡ 1) }
-    ensures unused { IfOk result (λ o. All (IsUnused (λ d. d.counts.given) (λ d. d.counts.failures)) o.items) }
+    ensures unused { IfOk result (λ o. All (IsUnused (λ d. d.counts.given) (λ d. d.counts.failures))
+        o.items) }
 {
     let mut outsides = Vec::new(alloc);
     outsides.push(ScriptDoors::new(list, NoGate))?;

@@ -5,7 +5,7 @@ use crate::devices::sources;
 use crate::listed::success;
 use crate::recording::{LogFile, free_path, record};
 use commands::DEFAULTS;
-use host_doors::{PairGate, OutcomePlace, ScriptDoors};
+use host_doors::{OutcomePlace, PairGate, ScriptDoors};
 use posix_terms::{Bytes, Given, OutKind, Outcome, Outcomes};
 use std::alloc::{AllocError, Global};
 use std::fs::remove_file;
@@ -60,11 +60,13 @@ const SECOND: OutcomePlace = OutcomePlace {
 
 type Readers = Vec<ScriptDoors<PairGate<HostRuntime>>>;
 
-// The outsides of both threads. A gate holds the read of each until the other has come, and else answers ETIMEDOUT: so it does where one
+// The outsides of both threads. A gate holds the read of each until the other
+// has come, and else answers ETIMEDOUT: so it does where one
 // thread makes all calls, or a lock is held round them.
 fn readers(alloc: Global, clock: HostRuntime) -> Result<Readers, AllocError>
     ensures both { IfOk result (λ o. length o.items ≡ 2) }
-    ensures unused { IfOk result (λ o. All (IsUnused (λ d. d.counts.given) (λ d. d.counts.failures)) o.items) }
+    ensures unused { IfOk result (λ o. All (IsUnused (λ d. d.counts.given) (λ d. d.counts.failures))
+        o.items) }
 {
     let first = outcomes(alloc, 2, b'A')?;
     let second = outcomes(alloc, 0, b'B')?;

@@ -41,6 +41,7 @@ expectation_line bad =
     codes "script " +++ decimal bad.script +++ codes ": bad expectation on line "
     +++ decimal bad.line +++ codes ": " +++ reason_text bad.reason +++ codes "\n"
 
+-- what is printed for a bad expectation, and status 3
 abbrev pub expectation_fault : BadExpectation → Printed
 expectation_fault bad = fault_printed 3 (expectation_line bad)
 

@@ -1,6 +1,7 @@
 -- Believed: a contract of a command stands on it.
 -- Which texts were read of sources, and which scripts they are.
-use Rattle.std.specs.Prelude.{◌≡◌, ◌≤◌, ◌<◌, ◌+◌, ℕ, IfSome, List, [], ◌∷◌, ◌++◌, length, Option, Result, Ok, Err}
+use Rattle.std.specs.Prelude.{◌≡◌, ◌≤◌, ◌<◌, ◌+◌, ℕ, IfSome, List, [], ◌∷◌, ◌++◌, length, Option}
+use Rattle.std.specs.Prelude.{Result, Ok, Err}
 use Rattle.thread_scripts.specs.Faults.{Fault}
 use Rattle.thread_scripts.specs.Grammar.{script_of}
 use Rattle.thread_scripts.specs.declared.line.Line.{Line}
@@ -13,7 +14,8 @@ largest_file = 16777216
 abbrev pub IsText : Option (List ℕ) → List ℕ → Type 0
 IsText known text = IfSome known (λ whole. text ≡ whole) × (length text ≤ largest_file)
 
--- A source could not be read: a read of it failed, as none does where its text is known, or its text is too long
+-- A source could not be read: a read of it failed, as none does
+-- where its text is known, or its text is too long
 abbrev pub IsUnreadable : Option (List ℕ) → Type 0
 IsUnreadable known = IfSome known (λ whole. largest_file < length whole)
 
@@ -39,7 +41,9 @@ abbrev pub AreRead : List (List ℕ × Option (List ℕ)) → Result (List (List
 AreRead sources (Ok texts) = AreTexts sources texts
 AreRead sources (Err path) = IsFirstUnread sources path
 
-abbrev pub script_before : ℕ → Result (List Line) Fault → Result (List (List Line)) (ℕ × Fault) → Result (List (List Line)) (ℕ × Fault)
+-- script i before those after it, or the first fault among them
+abbrev pub script_before : ℕ → Result (List Line) Fault → Result (List (List Line)) (ℕ × Fault)
+    → Result (List (List Line)) (ℕ × Fault)
 script_before i (Err fault) others = Err (i, fault)
 script_before i (Ok script) (Ok scripts) = Ok (script ∷ scripts)
 script_before i (Ok script) (Err fault) = Err fault

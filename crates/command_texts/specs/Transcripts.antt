@@ -1,6 +1,7 @@
 -- Believed: a contract of a command stands on it.
 -- The printed text of transcripts: a line for each row, and then how the run ended.
-use Rattle.std.specs.Prelude.{ℕ, ◌+◌, Bool, true, false, List, [], ◌∷◌, ◌++◌, length, Option, Some, None, codes, if◌then◌else◌, ◌==◌}
+use Rattle.std.specs.Prelude.{ℕ, ◌+◌, Bool, true, false, List, [], ◌∷◌, ◌++◌, length, Option, Some}
+use Rattle.std.specs.Prelude.{None, codes, if◌then◌else◌, ◌==◌}
 use Rattle.std.specs.Fmt.{decimal, signed_decimal}
 use Rattle.hex.specs.Hex.{encode_lower}
 use Rattle.posix_terms.specs.Calls.{kind_of, word_of}
@@ -12,8 +13,8 @@ use Rattle.posix_terms.specs.declared.transcript.Row.{Row}
 use Rattle.machine.specs.declared.stop.Stop.{Stop}
 use Rattle.machine.specs.declared.stop.Stop.TheVariants as stop
 
--- texts one behind the other
 infixr 30 ◌+++◌
+-- texts one after the other
 abbrev pub ◌+++◌ : List ℕ → List ℕ → List ℕ
 xs +++ ys = xs ++ ys
 
@@ -21,12 +22,14 @@ xs +++ ys = xs ++ ys
 abbrev pub data_text : List ℕ → List ℕ
 data_text bytes = if length bytes == 0 then codes "-" else encode_lower bytes
 
+-- a reply, in the words of a transcript
 unfoldable pub reply_text : Reply → List ℕ
 reply_text (reply.Count n) = codes "count " +++ decimal n
 reply_text (reply.Data bytes) = codes "data " +++ data_text bytes
 reply_text (reply.Number n) = codes "number " +++ signed_decimal n
 reply_text (reply.Pair a b) = codes "pair " +++ signed_decimal a +++ codes " " +++ signed_decimal b
-reply_text (reply.Stat kind number links) = codes "stat " +++ decimal (kind_code kind) +++ codes " " +++ decimal number +++ codes " " +++ decimal links
+reply_text (reply.Stat kind number links) = codes "stat " +++ decimal (kind_code kind) +++ codes " "
+    +++ decimal number +++ codes " " +++ decimal links
 reply_text reply.Done = codes "done"
 reply_text (reply.Fail e) = codes "fail " +++ name_of e
 
@@ -36,18 +39,23 @@ call_text row = word_of (kind_of row.call) +++ codes " " +++ reply_text row.repl
 
 -- thread, number of the row, with turns the clock of its turn, call and reply
 unfoldable pub row_text : Bool → ℕ → ℕ → Row → List ℕ
-row_text false thread number row = decimal thread +++ codes " " +++ decimal number +++ codes " " +++ word_of (kind_of row.call) +++ codes " " +++ reply_text row.reply +++ codes "\n"
-row_text true thread number row = decimal thread +++ codes " " +++ decimal number +++ codes " " +++ decimal row.turn.clock +++ codes " " +++ word_of (kind_of row.call) +++ codes " " +++ reply_text row.reply +++ codes "\n"
+row_text false thread number row = decimal thread +++ codes " " +++ decimal number +++ codes " " +++
+    word_of (kind_of row.call) +++ codes " " +++ reply_text row.reply +++ codes "\n"
+row_text true thread number row = decimal thread +++ codes " " +++ decimal number +++ codes " " +++
+    decimal row.turn.clock +++ codes " " +++ word_of (kind_of row.call) +++ codes " " +++ reply_text
+    row.reply +++ codes "\n"
 
 -- the rows of a thread, the first of which has this number
 abbrev pub rows_text : Bool → ℕ → ℕ → List Row → List ℕ
 rows_text turns thread number [] = []
-rows_text turns thread number (row ∷ rows) = row_text turns thread number row ++ rows_text turns thread (number + 1) rows
+rows_text turns thread number (row ∷ rows) = row_text turns thread number row
+    ++ rows_text turns thread (number + 1) rows
 
 -- the transcripts of threads, the first of which has this number
 abbrev pub transcripts_text : Bool → ℕ → List (List Row) → List ℕ
 transcripts_text turns thread [] = []
-transcripts_text turns thread (rows ∷ transcripts) = rows_text turns thread 0 rows ++ transcripts_text turns (thread + 1) transcripts
+transcripts_text turns thread (rows ∷ transcripts) = rows_text turns thread 0 rows
+    ++ transcripts_text turns (thread + 1) transcripts
 
 -- how a run ended
 unfoldable pub end_words : Option Stop → List ℕ

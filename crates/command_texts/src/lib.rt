@@ -2,16 +2,16 @@
 //! and the lines of faults.
 //!
 //! [`read_all`] reads the texts of [`Source`]s, or names the first that cannot be read; [`scripts`]
-//! reads the scripts, or tells the [`FirstFault`], and [`first_bad_expectation`] looks at what
+//! reads the scripts, or returns the [`FirstFault`], and [`first_bad_expectation`] looks at what
 //! their texts expect. A [`Printed`] is what goes to standard output and standard error, with the
 //! exit status: [`run_printed`] makes that of a run, [`with_unmet`] adds the line of a reply that
 //! is not as expected ([`unmet_line`]), and [`bad_line`], [`cannot_read`] and the like make that of
 //! a fault; [`log_text`] is the text of a log, of which [`header_line`], [`push_record`] and
-//! [`last_line`] give the lines. [`print`] writes it and answers the status. By the
-//! contracts the bytes are those of the definitions in `specs/`. [`push_row`] adds the line of a row
-//! to a text, and [`push_place`], [`push_call`], [`push_reply`], [`push_data`], [`push_word`],
-//! [`push_number`], [`push_signed`] and [`push_end`] add the parts of a line. What makes a text takes
-//! memory, and fails only for want of it.
+//! [`last_line`] give the lines. [`print`] writes it and returns the status. By the contracts the
+//! bytes are those of the definitions in `specs/`. [`push_row`] adds the line of a row to a text,
+//! and [`push_place`], [`push_call`], [`push_reply`], [`push_data`], [`push_word`],
+//! [`push_number`], [`push_signed`] and [`push_end`] add the parts of a line. What makes a text
+//! takes memory, and fails only where there is none.
 //!
 //! ```rust
 //! use call_machine::Plain;

@@ -34,13 +34,15 @@ pub fn cannot_read(alloc: Global, path: &str) -> Result<Printed, AllocError>
     fault(alloc, 4, text.as_str())
 }
 
-/// Writes what is to be printed, and answers the status.
+/// Writes what is to be printed, and returns the status.
 pub fn print<W: Write, E: Write>(
     printed: &Printed,
     output: &mut W,
     errors: &mut E,
 ) -> io::Result<u8>
-    ensures { IfOk result (λ status. IsPrinted printed.now status (W.contents output.old) (W.contents output.new) (E.contents errors.old) (E.contents errors.new) ⊎ IsCut status (E.contents errors.old) (E.contents errors.new)) }
+    ensures { IfOk result (λ status. IsPrinted printed.now status (W.contents output.old)
+        (W.contents output.new) (E.contents errors.old) (E.contents errors.new)
+        ⊎ IsCut status (E.contents errors.old) (E.contents errors.new)) }
 {
     match output.write_all(printed.output.as_slice()) {
         Ok(()) => {
@@ -51,7 +53,7 @@ pub fn print<W: Write, E: Write>(
     }
 }
 
-/// Says that standard output could not be written, and answers the status.
+/// Says that standard output could not be written, and returns the status.
 pub fn cannot_write<E: Write>(errors: &mut E) -> io::Result<u8>
     ensures { IfOk result (λ status. IsCut status (E.contents errors.old) (E.contents errors.new)) }
 {
@@ -59,9 +61,10 @@ pub fn cannot_write<E: Write>(errors: &mut E) -> io::Result<u8>
     Ok(4)
 }
 
-/// Says that there is no memory, and answers the status.
+/// Says that there is no memory, and returns the status.
 pub fn no_memory<E: Write>(errors: &mut E) -> io::Result<u8>
-    ensures { IfOk result (λ status. (status ≡ 4) × Appends (E.contents errors.old) (E.contents errors.new) (codes "no memory\n")) }
+    ensures { IfOk result (λ status. (status ≡ 4)
+        × Appends (E.contents errors.old) (E.contents errors.new) (codes "no memory\n")) }
 {
     errors.write_all(b"no memory\n")?;
     Ok(4)

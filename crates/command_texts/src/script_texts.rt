@@ -21,7 +21,8 @@ pub fn fits(scripts: usize) -> bool
 
 /// The scripts of texts, or the first fault.
 pub fn scripts(alloc: Global, texts: &[Bytes]) -> Result<Vec<Script>, FirstFault>
-    ensures { MatchResult result (λ scripts. scripts_from 0 texts.now ≡ Ok scripts.items) (λ fault. IsFirst fault (scripts_from 0 texts.now)) }
+    ensures { MatchResult result (λ scripts. scripts_from 0 texts.now ≡ Ok scripts.items)
+        (λ fault. IsFirst fault (scripts_from 0 texts.now)) }
 {
     let mut scripts = Vec::new(alloc);
     for i in 0..texts.len() {

@@ -43,7 +43,7 @@ const TRIES: u32 = 1_000_000;
 /// bytes. A read that was interrupted is tried again.
 pub fn read_once<R: Read>(reader: &mut R, buffer: &mut [u8]) -> Result<usize, SourceFault>
     ensures bound { ReadsAtMost result buffer.new }
-    ensures bytes { ReadConsumes (R.remaining reader.old) (R.remaining reader.new) result buffer.new }
+    ensures got { ReadConsumes (R.remaining reader.old) (R.remaining reader.new) result buffer.new }
 {
     for _ in 0..TRIES {
         match reader.read(buffer) {
@@ -120,8 +120,10 @@ pub fn read_all<'a, R: TextReader + Drop>(
     alloc: Global,
     sources: Vec<Source<'a, R>>,
 ) -> Result<Vec<Bytes>, Unread<'a>>
-    ensures texts { IfOk result (λ texts. AreTexts (map (λ s. (s.path.now, R.remaining s.reader)) sources.entry.items) texts.items) }
-    ensures unread { IfErr result (IsUnread (map (λ s. (s.path.now, R.remaining s.reader)) sources.entry.items)) }
+    ensures texts { IfOk result (λ texts. AreTexts
+        (map (λ s. (s.path.now, R.remaining s.reader)) sources.entry.items) texts.items) }
+    ensures unread { IfErr result (IsUnread
+        (map (λ s. (s.path.now, R.remaining s.reader)) sources.entry.items)) }
 {
     let mut texts = Vec::new(alloc);
     for source in sources {

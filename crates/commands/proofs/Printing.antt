@@ -6,7 +6,8 @@ use Rattle.command_texts.specs.declared.printed.Printed.{Printed}
 
 pub prints_meant : {E : Type 0} (Meant : Printed → Type 0) (printed : Printed) (r : Result ℕ E)
     (output output_then errors errors_then : Option (List ℕ)) → Meant printed
-    → IfOk r (λ status. ◌⊎◌ (IsPrinted printed status output output_then errors errors_then) (IsCut status errors errors_then))
+    → IfOk r (λ status. ◌⊎◌ (IsPrinted printed status output output_then errors errors_then)
+    (IsCut status errors errors_then))
     → IfOk r (λ status. Prints Meant status output output_then errors errors_then)
 prints_meant Meant printed r output output_then errors errors_then meant h =
     IfOk-weaker r

@@ -20,7 +20,11 @@ use Rattle.command_inputs.specs.declared.running.ToRun.TheVariants as runs
 
 -- the run of scripts, none of which has outcomes from outside
 abbrev pub inputs_of : Settings → List (List Line) → Inputs
-inputs_of settings scripts = record { scripts = scripts; outcomes = replicate (length scripts) []; settings = settings }
+inputs_of settings scripts = record {
+  scripts = scripts;
+  outcomes = replicate (length scripts) [];
+  settings = settings;
+}
 
 -- what is printed for a run of the scripts of these texts, whether its settings are in range or not
 abbrev pub RunPrints : Bool → RunOptions → List (List ℕ) → Inputs → Printed → Type 0
@@ -43,7 +47,8 @@ TextsPrint settings options texts printed =
 
 -- what is printed for the texts of sources, or where they were not read
 abbrev pub ReadPrints : Settings → RunOptions → SourceTexts → Printed → Type 0
-ReadPrints settings options (texts.Read read) printed = TextsPrint settings options read.items printed
+ReadPrints settings options (texts.Read read) printed =
+    TextsPrint settings options read.items printed
 ReadPrints settings options (texts.Fault fault) printed = printed ≡ fault
 
 -- What `detio plain` prints for these sources. The first of its faults counts: the number of

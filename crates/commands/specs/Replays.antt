@@ -40,7 +40,8 @@ ReadReplays Comes options (reads.Texts text texts) printed =
     TextsReplay Comes options text texts.items printed
 ReadReplays Comes options (reads.Fault fault) printed = printed ≡ fault
 
--- What `detio replay` prints for the log and the sources of these paths, by a replay of which so much comes.
+-- What `detio replay` prints for the log and the sources of these paths, by a replay of which this
+-- comes.
 -- The first of its faults counts: the number of scripts, a log that cannot be read, a script that
 -- cannot be read, one that is not a script, a bad expectation, the log's, another number of threads
 abbrev pub ReplayPrints : (List ℕ → List (List Line) → Ran → Type 0) → RunOptions

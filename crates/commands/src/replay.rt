@@ -41,7 +41,8 @@ pub fn replay_over<R: TextReader + Drop, W: Write, E: Write>(
     }
 }
 
-/// `detio replay --threads`: the same, where each script runs in a thread of its own. It waits until all threads have come to their end.
+/// `detio replay --threads`: the same, where each script runs in a thread of
+/// its own. It waits until all threads have come to their end.
 pub fn replay_threads_over<R: TextReader + Drop, W: Write, E: Write, T: Threads + Wait + Sync>(
     rt: &T,
     alloc: Global,

@@ -20,8 +20,8 @@ pub enum Told {
     Fault(Printed),
 }
 
-/// What came of the replay of a log with the scripts of these texts, or what is printed for the first
-/// fault among them, or of the log. It fails only where there is no memory.
+/// What came of the replay of a log with the scripts of these texts, or what is printed for the
+/// first fault among them, or of the log. It fails only out of memory.
 pub fn told_of(alloc: Global, log: &Bytes, texts: &[Bytes]) -> Result<Told, AllocError>
     ensures { IfOk result (ScriptsTell log.now (scripts_from 0 texts.now)) }
 {
@@ -33,7 +33,7 @@ pub fn told_of(alloc: Global, log: &Bytes, texts: &[Bytes]) -> Result<Told, Allo
     }
 }
 
-// What is told of the replay of a log with these scripts.
+// What is reported of the replay of a log with these scripts.
 fn run_told(alloc: Global, log: &[u8], scripts: Vec<Script>) -> Result<Told, AllocError>
     ensures { IfOk result (RunTells log.now scripts.items) }
 {
@@ -44,7 +44,7 @@ fn run_told(alloc: Global, log: &[u8], scripts: Vec<Script>) -> Result<Told, All
     }
 }
 
-// What is told of a replay with so many scripts that did not come to its end, or was none.
+// What is reported of a replay with so many scripts that did not come to its end, or was none.
 pub fn fault_told(
     alloc: Global,
     log: &[u8],

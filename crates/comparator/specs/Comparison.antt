@@ -6,7 +6,8 @@ use Rattle.posix_terms.specs.declared.transcript.Row.{Row}
 use Rattle.comparator.specs.declared.verdict.Verdict.{Verdict}
 use Rattle.comparator.specs.declared.verdict.Verdict.TheVariants as verdict
 
--- the entries before this place agree, and here they do not: they are two others, or only one list has an entry here
+-- the entries before this place agree, and here they do not: they are two others, or only one list
+-- has an entry here
 pub record IsFirstDifference {A : Type 0} (xs ys : List A) (n : ℕ) : Type 0 where
   pub before : take n xs ≡ take n ys
   pub here : slice_get xs n ≢ slice_get ys n
@@ -16,7 +17,8 @@ abbrev pub IsFirstRow : Option (List Row) → Option (List Row) → ℕ → Type
 IsFirstRow (Some xs) (Some ys) row = IsFirstDifference xs ys row
 IsFirstRow xs ys row = row ≡ 0
 
--- the transcripts of the threads before this one agree, and those of this one differ first at this row
+-- the transcripts of the threads before this one agree, and those of this one differ first at this
+-- row
 pub record DifferFirst (a b : List (List Row)) (thread row : ℕ) : Type 0 where
   pub threads : IsFirstDifference a b thread
   pub rows : IsFirstRow (slice_get a thread) (slice_get b thread) row

@@ -21,7 +21,7 @@
 //! let one = Transcripts::from_vec(vec![in alloc; rows]?);
 //! let other = Transcripts::from_vec(vec![in alloc; Transcript::new(alloc)]?);
 //! assert!(rt; compare(&one, &one) == Verdict::Same);
-//! // The row behind the last of the shorter transcript is the first that differs.
+//! // The row after the last of the shorter transcript is the first that differs.
 //! assert!(rt; compare(&one, &other) == Verdict::Differs { thread: 0, row: 0 });
 //! assert!(rt; compare_by(false, &one, &one) == Verdict::Same);
 //! assert!(rt; prefix_of(&other, &one) && !prefix_of(&one, &other));

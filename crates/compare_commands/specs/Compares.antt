@@ -26,8 +26,8 @@ verdict_printed_by options seen stop others other_stop verdict =
     if options.rows then rows_printed options.turns seen stop others other_stop verdict
     else verdict_printed verdict
 
--- what is printed for what was seen by the first log and how that ended, and what is told of the
--- second
+-- what is printed for what was seen by the first log and how that ended, and what is reported of
+-- the second
 abbrev pub BothPrint : CompareOptions → List (List Row) → Option Stop → Told → Printed → Type 0
 BothPrint options seen stop (tells.Run others other_stop) printed =
     (verdict : Verdict) × IsVerdictBy options.turns seen others verdict
@@ -40,7 +40,7 @@ abbrev pub SeenCompares : CompareOptions → List (List Row) → Option Stop →
 SeenCompares options seen stop other scripts printed =
     (told : Told) × ScriptsTell other scripts told × BothPrint options seen stop told printed
 
--- what is printed for a second log, where this is told of the first
+-- what is printed for a second log, where this is reported of the first
 abbrev pub ToldCompares : CompareOptions → Told → List ℕ → Result (List (List Line)) (ℕ × Fault)
     → Printed → Type 0
 ToldCompares options (tells.Run seen stop) other scripts printed =
@@ -74,6 +74,7 @@ LogCompares options log other sources printed =
     (IsUnreadable other.1 × (printed ≡ cannot_read other.0))
     ⊎ ((text : List ℕ) × IsText other.1 text × LogsCompare options log text sources printed)
 
+-- what is printed, by whether there are as many scripts as a run can have
 abbrev pub CountCompares : Bool → CompareOptions → List ℕ × Option (List ℕ)
     → List ℕ × Option (List ℕ) → List (List ℕ × Option (List ℕ)) → Printed → Type 0
 CountCompares false options log other sources printed = printed ≡ needs_scripts

@@ -24,6 +24,7 @@ abbrev pub verdict_status : Verdict → ℕ
 verdict_status verdicts.Same = 0
 verdict_status (verdicts.Differs thread row) = 1
 
+-- what is printed for a verdict, with its exit status
 abbrev pub verdict_printed : Verdict → Printed
 verdict_printed verdict = record {
   status = verdict_status verdict;

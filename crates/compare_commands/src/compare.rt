@@ -1,8 +1,8 @@
 ghost use Rattle.std.specs.Prelude.{◌≡◌, IfOk, map};
 ghost use Rattle.command_texts.specs.Printing.{Prints};
 ghost use Rattle.command_texts.specs.Reading.{scripts_from};
-ghost use Rattle.compare_commands.specs.Compares.{BothPrint, ComparePrints, LogCompares, LogsCompare};
-ghost use Rattle.compare_commands.specs.Compares.{ScriptsCompare, SeenCompares};
+ghost use Rattle.compare_commands.specs.Compares.{BothPrint, ComparePrints, LogCompares};
+ghost use Rattle.compare_commands.specs.Compares.{LogsCompare, ScriptsCompare, SeenCompares};
 ghost use Rattle.commands.specs.declared.told.Told.TheVariants as tells;
 
 use crate::differences::{rows_printed, verdict_printed};

@@ -1,9 +1,9 @@
-//! What the command `compare` does, over any readers and writers: two logs are replayed with the same
-//! scripts, and what the threads saw is compared.
+//! What the command `compare` does, over any readers and writers: two logs are replayed with the
+//! same scripts, and what the threads saw is compared.
 //!
-//! [`compare_over`] prints a verdict, as `same` or `differs 0 2`, and answers the exit status; by
-//! [`CompareOptions`] it prints the rows too, and leaves turns out. Its contract says what is printed
-//! for which texts.
+//! [`compare_over`] prints a verdict, as `same` or `differs 0 2`, and returns the exit status; by
+//! [`CompareOptions`] it prints the rows too, and leaves turns out. Its contract says what is
+//! printed for which texts.
 //!
 //! ```rust
 //! use commands::Source;

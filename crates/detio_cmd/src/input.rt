@@ -63,7 +63,7 @@ pub(crate) fn open_scripts<'a, 'h>(
 }
 
 // The text at this path. Standard input is read as such, since opening its path again is refused where
-// another user made the pipe behind it.
+// another user made the pipe after it.
 pub(crate) fn open_source<'a, 'h>(host: Host<'h>, path: &'a str) -> Source<'a, Input<'h>> {
     let place = if path_of(path) == STDIN_PATH {
         Origin::Stdin(host.rt.stdin())

@@ -46,7 +46,8 @@ fn main(rt: HostRuntime) -> ExitCode {
     ExitCode::from(status)
 }
 
-// What is opened first gets the lowest free descriptors: where a standard stream is closed, one of these takes its place, so that no log
+// What is opened first gets the lowest free descriptors: where a standard
+// stream is closed, one of these takes its place, so that no log
 // and no script does. From them nothing is read, and to them nothing can be written.
 fn places_held(rt: &HostRuntime) -> [Option<File>; 3] {
     [null(rt), null(rt), null(rt)]

@@ -91,6 +91,7 @@ ScheduleExplores subject options (delays.Delays schedule) printed =
     SubjectExplores subject options schedule printed
 ScheduleExplores subject options (delays.Fault fault) printed = printed ≡ fault
 
+-- what is printed of a subject that is explored with the delays of these options
 abbrev pub TrialExplores : ExploreOptions → Subject → Printed → Type 0
 TrialExplores options subject printed =
     (made : ToSchedule) × AreScheduled options subject.texts made

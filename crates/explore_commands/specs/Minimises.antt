@@ -33,6 +33,7 @@ NothingMinimises subject write =
     ((plain : Plain) × IsRun subject plain × IsNotWritten not_failing write)
     ⊎ FaultWrites subject write
 
+-- what is written of a subject: what its failure needs, or why nothing is
 abbrev pub SubjectMinimises : Subject → ScriptsToWrite → Type 0
 SubjectMinimises subject write =
     ((target : Target) × Fails subject target × TargetMinimises subject target write)

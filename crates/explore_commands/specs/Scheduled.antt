@@ -14,6 +14,7 @@ use Rattle.explore_commands.specs.declared.scheduling.ToSchedule.TheVariants as 
 
 -- ## Faults
 
+-- the reach is not in its range
 abbrev pub bad_reach : Printed
 bad_reach = fault_printed 2 (codes "the reach is 0 to 1000000\n")
 
@@ -27,6 +28,7 @@ no_list case = fault_printed 2 (codes "there is no list " +++ decimal case +++ c
 
 -- ## The delays
 
+-- there are delays: those of this schedule
 abbrev pub IsScheduled : Schedule → ToSchedule → Type 0
 IsScheduled schedule (delays.Delays given) = given ≡ schedule
 IsScheduled schedule (delays.Fault fault) = ⊥

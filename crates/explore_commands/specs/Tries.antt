@@ -39,6 +39,7 @@ RunAlone settings texts (runs.Scripts scripts) try =
     IsTried texts (replicate (length texts) []) settings try
 RunAlone settings texts (runs.Fault fault) try = IsNotTried fault try
 
+-- what is tried of these texts, with nothing from outside
 abbrev pub TextsAlone : Settings → List (List ℕ) → ToTry → Type 0
 TextsAlone settings texts try =
     (run : ToRun) × IsToRun true texts run × RunAlone settings texts run try
@@ -48,28 +49,34 @@ abbrev pub ReadAlone : Settings → SourceTexts → ToTry → Type 0
 ReadAlone settings (texts.Read read) try = TextsAlone settings read.items try
 ReadAlone settings (texts.Fault fault) try = IsNotTried fault try
 
+-- what is tried of the texts of these sources, with nothing from outside
 abbrev pub AloneTries : Settings → List (List ℕ × Option (List ℕ)) → ToTry → Type 0
 AloneTries settings sources try =
     (read : SourceTexts) × IsRead sources read × ReadAlone settings read try
 
 -- ## Where the outcomes of a log come, and its settings count
 
+-- what is tried of these texts with what a log gives, or with the fault that it has
 abbrev pub GivenTries : List (List ℕ) → LogInputs → ToTry → Type 0
 GivenTries texts (inputs.Given outcomes settings) try = IsTried texts outcomes.items settings try
 GivenTries texts (inputs.Fault fault) try = IsNotTried fault try
 
+-- what is tried of these texts by a log
 abbrev pub LogTries : List ℕ → List (List ℕ) → ToTry → Type 0
 LogTries log texts try =
     (given : LogInputs) × LogGives log (length texts) given × GivenTries texts given try
 
+-- what is tried by a log where the texts are scripts, or have a fault
 abbrev pub RunByLog : List ℕ → List (List ℕ) → ToRun → ToTry → Type 0
 RunByLog log texts (runs.Scripts scripts) try = LogTries log texts try
 RunByLog log texts (runs.Fault fault) try = IsNotTried fault try
 
+-- the texts are looked at first, and then what is tried of them by a log
 abbrev pub TextsByLog : List ℕ → List (List ℕ) → ToTry → Type 0
 TextsByLog log texts try =
     (run : ToRun) × IsToRun true texts run × RunByLog log texts run try
 
+-- what is tried of a log and texts that were read, or where they were not
 abbrev pub ReadByLog : ToReplay → ToTry → Type 0
 ReadByLog (reads.Texts log texts) try = TextsByLog log texts.items try
 ReadByLog (reads.Fault fault) try = IsNotTried fault try

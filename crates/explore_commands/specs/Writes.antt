@@ -48,6 +48,7 @@ ScheduleWrites subject options (delays.Delays schedule) write =
     SubjectWrites (with_delays (delays_by schedule options.first) subject) write
 ScheduleWrites subject options (delays.Fault fault) write = IsNotWritten fault write
 
+-- what is written of a subject with the delays of these options' first case
 abbrev pub TrialWrites : ExploreOptions → Subject → ScriptsToWrite → Type 0
 TrialWrites options subject write =
     (made : ToSchedule) × AreScheduled options subject.texts made

@@ -38,7 +38,13 @@ pub struct ExploreOptions {
 /// output cannot be written, that is the fault. `progress` is called after each batch of
 /// [`Workers::at_a_time`] runs, and once before anything is printed. An error is one of the writer
 /// `errors`.
-pub fn explore_over<T: Threads + Sync, R: TextReader + Drop, P: ReportsProgress, W: Write, E: Write>(
+pub fn explore_over<
+    T: Threads + Sync,
+    R: TextReader + Drop,
+    P: ReportsProgress,
+    W: Write,
+    E: Write,
+>(
     workers: &Workers<'_, T>,
     alloc: Global,
     settings: Settings,

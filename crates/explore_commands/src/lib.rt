@@ -3,13 +3,13 @@
 //!
 //! [`explore_over`] runs scripts with the delays of many seeds or lists, by [`ExploreOptions`], and
 //! prints what is found. [`faults_over`] runs them with the failures and short counts of
-//! [`FaultOptions`] in place of the outcomes of a log. What a command writes is a [`ScriptsToWrite`], the
-//! texts of scripts and the log of their plain run: [`to_write`] gives those of scripts with the
-//! delays of the first case, [`to_write_case`] those of scripts with one outcome replaced, and
-//! [`to_minimise`] what is left of scripts that fail once all lines and threads are gone that the
-//! failure does not need. All read their [`Source`](command_texts::Source)s. Bad scripts, bad logs
-//! and lack of memory are faults that are printed; only an error of the writer `errors` is
-//! returned.
+//! [`FaultOptions`] in place of the outcomes of a log. What a command writes is a
+//! [`ScriptsToWrite`], the texts of scripts and the log of their plain run: [`to_write`] gives
+//! those of scripts with the delays of the first case, [`to_write_case`] those of scripts with one
+//! outcome replaced, and [`to_minimise`] what is left of scripts that fail once all lines and
+//! threads are gone that the failure does not need. All read their
+//! [`Source`](command_texts::Source)s. Bad scripts, bad logs and lack of memory are faults that are
+//! printed; only an error of the writer `errors` is returned.
 #![tactic(auto)]
 
 mod case_log;

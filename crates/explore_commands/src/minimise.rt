@@ -58,7 +58,11 @@ fn trial_minimised(alloc: Global, trial: Trial<'_>) -> Result<ScriptsToWrite, Al
 }
 
 // What is written of what is kept.
-fn kept_written(alloc: Global, trial: Trial<'_>, kept: &Reduction) -> Result<ScriptsToWrite, AllocError>
+fn kept_written(
+    alloc: Global,
+    trial: Trial<'_>,
+    kept: &Reduction,
+) -> Result<ScriptsToWrite, AllocError>
     ensures { IfOk result (SubjectWrites (kept_subject (subject trial.entry) kept.now)) }
 {
     let texts = kept.texts(alloc, trial.texts)?;

@@ -41,6 +41,7 @@ abbrev pub seen_text : Option Row → List ℕ
 seen_text None = codes "-"
 seen_text (Some row) = call_text row
 
+-- this row of what a thread saw, if it saw so many
 abbrev pub row_at : List (List Row) → ℕ → ℕ → Option Row
 row_at seen thread row = option_and_then (λ rows. slice_get rows row) (slice_get seen thread)
 
@@ -113,6 +114,7 @@ IsFinding subject schedule before group finding =
 abbrev pub failed_of : List Finding → ℕ
 failed_of findings = sum_by (λ (finding : Finding). finding.failed) findings
 
+-- the lines of these findings, in order
 abbrev pub lines_of : List Finding → List ℕ
 lines_of findings = flat_map (λ (finding : Finding). finding.line) findings
 

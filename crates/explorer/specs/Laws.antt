@@ -46,7 +46,7 @@ ThreadsMakeCalls =
     → scripts_from 0 (varied_texts delays 0 texts) ≡ Ok varied
     → map calls_in varied ≡ map calls_in scripts
 
--- where the varied texts are no scripts, one is too long
+-- where the varied texts are not scripts, one is too long
 abbrev pub OnlyTooLong : Type 0
 OnlyTooLong =
     (delays : ℕ → ℕ → Option ℕ) (texts : List (List ℕ)) (scripts : List (List Line))

@@ -37,26 +37,30 @@ pub record Bounds : Type 0 where
   pub reach : ℕ
   pub two : Bool
 
--- the delays at a place: of one unit, of two, up to the reach
+-- the delay of so many units at a place
 abbrev pub delay_of : CallPlace → ℕ → Delay
 delay_of place units = record { place = place; units = units }
 
+-- the delays at a place: of one unit, of two, up to the reach
 abbrev pub delays_at : ℕ → CallPlace → List Delay
 delays_at reach place = map (delay_of place) (range_with_len 1 reach)
 
+-- the delays at all of these places, in order
 abbrev pub delays_among : ℕ → List CallPlace → List Delay
 delays_among reach places = flat_map (delays_at reach) places
 
--- the lists of two delays at two places
+-- the list of two delays
 abbrev pub two_of : Delay → Delay → List Delay
 two_of delay other = delay ∷ other ∷ []
 
+-- the lists of two delays at two of these places, in order
 abbrev pub pairs_among : ℕ → List CallPlace → List (List Delay)
 pairs_among reach [] = []
 pairs_among reach (place ∷ places) =
     flat_map (λ delay. map (two_of delay) (delays_among reach places)) (delays_at reach place)
     ++ pairs_among reach places
 
+-- the list of one delay
 abbrev pub one_of : Delay → List Delay
 one_of delay = delay ∷ []
 
@@ -68,6 +72,7 @@ lists_of bounds =
 
 -- ## The delays of a list
 
+-- the delays that a list has, in order
 abbrev pub delays_in : DelayList → List Delay
 delays_in list = cons_option list.first (cons_option list.second [])
 

@@ -1,6 +1,7 @@
 -- Believed: a contract of a command stands on it.
 -- What the threads of a run saw, whatever the clocks of their turns were, and how it ended.
-use Rattle.std.specs.Prelude.{◌≡◌, ◌-◌, Bool, true, false, List, Option, Some, length, map, slice_get}
+use Rattle.std.specs.Prelude.{◌≡◌, ◌-◌, Bool, true, false, List, Option, Some, length, map}
+use Rattle.std.specs.Prelude.{slice_get}
 use Rattle.posix_terms.specs.declared.step.Step.{Step}
 use Rattle.posix_terms.specs.declared.step.Step.TheVariants as step
 use Rattle.posix_terms.specs.declared.transcript.Row.{Row}
@@ -11,9 +12,11 @@ use Rattle.explorer.specs.declared.observation.Observation.{Observation}
 abbrev pub clockless : Row → Row
 clockless row = record row { turn = record row.turn { clock = 0 } }
 
+-- what the threads saw, without the clocks of their turns
 abbrev pub seen_of : List (List Row) → List (List Row)
 seen_of transcripts = map (map clockless) transcripts
 
+-- there is a step, and it is the end
 abbrev pub is_end : Option Step → Bool
 is_end (Some step.End) = true
 is_end other = false

@@ -11,6 +11,7 @@ pub record Subject : Type 0 where
   pub outcomes : List (List Given)
   pub settings : Settings
 
+-- what a trial runs
 abbrev pub subject : Trial → Subject
 subject trial =
     record { texts = trial.texts.now; outcomes = trial.outcomes.now; settings = trial.settings }

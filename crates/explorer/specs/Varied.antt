@@ -26,6 +26,7 @@ varied_lines delay above [] = []
 varied_lines delay above (line ∷ lines) =
     varied_line delay above line ++ varied_lines delay (above + 1) lines
 
+-- the text of a script with these delays before its calls
 abbrev pub varied_text : (ℕ → Option ℕ) → List ℕ → List ℕ
 varied_text delay text = varied_lines delay 0 (lines_of text)
 

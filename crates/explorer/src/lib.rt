@@ -12,8 +12,8 @@
 //! what comes for them from outside, and the settings: [`Trial::run`] is its plain run, and
 //! [`Trial::explored`] runs it with each case of a range, and gives the [`Group`]s of the runs in
 //! which the threads saw the same. An [`Observation`] is what they saw, their calls and replies
-//! without the clocks of the turns, which of them had [`EndedThreads`], and why the run stopped. By the
-//! contract there is one plain run for each case, in order, and each is counted in one group. A
+//! without the clocks of the turns, which of them had [`EndedThreads`], and why the run stopped. By
+//! the contract there is one plain run for each case, in order, and each is counted in one group. A
 //! [`RunFault`] says why there was none. Each run takes outcomes of its own, which
 //! [`outcomes_copied`] gives.
 //!

@@ -72,6 +72,7 @@ tried choice given =
 
 -- ## What differs from an outcome
 
+-- the outcome is a read or a write of more bytes than so many
 abbrev pub is_short : OutKind → Outcome → ℕ → Bool
 is_short kind.Read (outcome.Ok value bytes) count = nat_lt count value
 is_short kind.Write (outcome.Ok value bytes) count = nat_lt count value

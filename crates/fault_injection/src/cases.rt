@@ -29,7 +29,7 @@ pub struct FaultCase {
 
 /// The cases of these outcomes, which are listed by thread. They come in the order of the threads,
 /// then of the outcomes' numbers; of an outcome, first the errors in their order, then the short
-/// counts from the least on. A failure is no case where the outcome is that failure itself.
+/// counts from the least on. A failure is not a case where the outcome is that failure itself.
 pub fn fault_cases(
     alloc: Global,
     outcomes: &[Outcomes],

@@ -1,5 +1,5 @@
 //! Fault injection: runs scripts again and again by the outcomes of a log, each time with another
-//! outcome in the place of one, to find a failure or a short count that breaks them.
+//! outcome in the place of one. That finds a failure or a short count that breaks them.
 //!
 //! [`fault_cases`] gives the [`FaultCase`]s of the outcomes of threads: for each outcome the errors
 //! that its kind of request can meet ([`errors_of`]), or those that a [`Choice`] names, and in

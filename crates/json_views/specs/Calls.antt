@@ -57,6 +57,7 @@ flag_words flags =
     ++ (flag_word flags.append (codes "append")
     ++ flag_word flags.nonblock (codes "nonblock"))))
 
+-- the flags of a call, as an array of their words
 abbrev pub flags_value : OpenFlags → Data
 flags_value flags = array (items_of (flag_words flags))
 
@@ -72,27 +73,35 @@ status_flags append nonblock = record {
 
 -- ## Members of a call, each with the name of its operand
 
+-- a number, under this name
 abbrev pub number_member : List ℕ → ℤ → Member
 number_member name n = (name, number_value n)
 
+-- a path, under this name
 abbrev pub path_member : List ℕ → List ℕ → Member
 path_member name path = (name, text_value path)
 
+-- the bytes of a call, in hexadecimal digits
 abbrev pub bytes_member : List ℕ → Member
 bytes_member bytes = (codes "bytes", hex_value bytes)
 
+-- whether a call opens to read, to write or both
 abbrev pub access_member : Access → Member
 access_member access = (codes "access", string (access_word access))
 
+-- the flags of a call
 abbrev pub flags_member : OpenFlags → Member
 flags_member flags = (codes "flags", flags_value flags)
 
+-- from where a call counts the offset
 abbrev pub whence_member : Whence → Member
 whence_member whence = (codes "whence", string (whence_word whence))
 
+-- which side of a stream a call shuts
 abbrev pub how_member : ShutdownHow → Member
 how_member how = (codes "how", string (how_word how))
 
+-- the descriptor of a call
 abbrev pub descriptor_member : ℤ → Member
 descriptor_member descriptor = number_member (codes "descriptor") descriptor
 
@@ -144,6 +153,7 @@ arguments_of (call.TcpListen port) = number_member (codes "port") port ∷ []
 arguments_of (call.TcpConnect port) = number_member (codes "port") port ∷ []
 arguments_of (call.TcpAccept descriptor) = descriptor_member descriptor ∷ []
 
+-- the operands of a call, as an object
 abbrev pub arguments_value : Call → Data
 arguments_value c = object_of (arguments_of c)
 
@@ -168,5 +178,6 @@ reply_member (reply.Stat kind size links) =
 reply_member reply.Done = (codes "done", boolean true)
 reply_member (reply.Fail error) = (codes "fail", string (name_of error))
 
+-- a reply, as an object of one member
 abbrev pub reply_value : Reply → Data
 reply_value r = object_of (reply_member r ∷ [])

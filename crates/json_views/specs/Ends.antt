@@ -47,11 +47,12 @@ end_value stop status unmet = object_of (
     ∷ (codes "unmet", unmet_value unmet)
     ∷ [])
 
+-- the last line of a run
 abbrev pub end_line : Option Stop → ℕ → Option (List ℕ) → List ℕ
 end_line stop status unmet = line_of (end_value stop status unmet)
 
--- the status of a run that ended so: 1 where all threads came to their end, but this reply was not as
--- expected
+-- the status of a run that ended so: 1 where all threads came to their end, but this reply was not
+-- as expected
 abbrev pub status_with : Option Stop → Option (List ℕ) → ℕ
 status_with None (Some line) = 1
 status_with stop unmet = end_status stop

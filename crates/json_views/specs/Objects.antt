@@ -20,10 +20,11 @@ with_members before (m ∷ more) = with_members (put m.0 m.1 before) more
 abbrev pub object_of : List Member → Data
 object_of members = object (with_members no_members members)
 
--- a number that is not below zero, and null where there is none
+-- a number that is not below zero
 abbrev pub count_value : ℕ → Data
 count_value n = number (unsigned n)
 
+-- a number, and null where there is none
 abbrev pub optional_value : Option ℕ → Data
 optional_value None = null
 optional_value (Some n) = count_value n

@@ -30,5 +30,6 @@ course_of c =
 abbrev pub row_value : Answered → Data
 row_value c = object (with_members (with_members no_members (place_of c)) (course_of c))
 
+-- the line of a call that was answered
 abbrev pub row_line : Answered → List ℕ
 row_line c = line_of (row_value c)

@@ -1,9 +1,10 @@
 //! Runs and logs in JSON, one object a line.
 //!
 //! [`run_json`] makes what is printed of a run: the line of each call that was answered
-//! ([`push_row_json`]), and the last one, which says how it ended. [`log_json`] is the text of a log, as far as it is whole. By the
-//! contracts the bytes are the compact text of the values that `specs/` defines. The members of an
-//! object come in the order of their names. It takes memory, and fails only where there is none.
+//! ([`push_row_json`]), and the last one, which says how it ended. [`log_json`] is the text of a
+//! log, as far as it is whole. By the contracts the bytes are the compact text of the values that
+//! `specs/` defines. The members of an object come in the order of their names. It takes memory,
+//! and fails only where there is none.
 //!
 //! ```rust
 //! use answered_calls::answered_calls;

@@ -20,6 +20,7 @@ abbrev pub work_first : Option (List (List ℕ)) → Bool
 work_first (Some (word ∷ operands)) = bytes_eq word (codes "work")
 work_first _ = false
 
+-- the line is a delay
 abbrev pub is_delay : List ℕ → Bool
 is_delay line = work_first (words_of line)
 
@@ -46,5 +47,6 @@ abbrev pub size_of_thread : Option (List Bool) → ℕ
 size_of_thread None = 0
 size_of_thread (Some lines) = count_kept lines + 1
 
+-- how many lines and threads are kept
 abbrev pub size_of : Kept → ℕ
 size_of kept = sum_by size_of_thread kept

@@ -86,7 +86,7 @@ fn unmet_in(
         (IsAsExpected (text.now, rows.now))
         (IsUnmetIn thread (text.now, rows.now))) }
 {
-    // The text is a script, and its expectations are good: what is refused here wants memory.
+    // The text is a script, and its expectations are good: only memory can have run out.
     let Ok(script) = parse(alloc, text) else {
         return Err(AllocError);
     };

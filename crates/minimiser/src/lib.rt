@@ -1,5 +1,5 @@
 //! Delta debugging: takes lines and threads away from scripts that fail an expectation, as long as
-//! they fail the same, for whoever wants to see what the failure needs and no more.
+//! they fail the same. It is for whoever wants to see what the failure needs and no more.
 //!
 //! An [`explorer::Trial`] has the texts of scripts, what comes for them from outside, and the
 //! settings. [`find_target`] runs it on the plain schedule and gives the [`Target`]: the first

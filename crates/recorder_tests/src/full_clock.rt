@@ -44,7 +44,8 @@ fn script(alloc: Global, length: usize, time: u64) -> Result<Script, AllocError>
     }
 }
 
-// A run of threads, so many, each of which has the first lines, so many, and works so long; and whether a row is left of it.
+// A run of threads, so many, each of which has the first lines, so
+// many, and works so long; and whether a row is left of it.
 #[derive(Clone, Copy)]
 struct Filled {
     threads: usize,
@@ -53,7 +54,8 @@ struct Filled {
     has_rows: bool,
 }
 
-// A clock is full when a step is asked, at the first attempt of a call, and at a later one of a call that is blocked. The fifteen others leave,
+// A clock is full when a step is asked, at the first attempt of a call, and at a
+// later one of a call that is blocked. The fifteen others leave,
 // which in the last two may be waiting for their turns.
 const FILLED: &[Filled] = &[
     Filled {

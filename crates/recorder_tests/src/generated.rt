@@ -82,7 +82,8 @@ const PIECES: &[Part] = &[
 // How many pieces a script has.
 const LENGTH: u64 = 4;
 
-// A blocked call is made again three times, and a call outside costs ten attempts of those that wait, so that no run takes long.
+// A blocked call is made again three times, and a call outside costs ten
+// attempts of those that wait, so that no run takes long.
 const SHORT_WAITS: Settings = Settings {
     patience: 4,
     door_cost: 10,
@@ -115,7 +116,7 @@ fn threads(seed: u64) -> u64 {
     1 + seed % 16
 }
 
-// The script of this thread: the first makes the pipe, and the others begin behind that.
+// The script of this thread: the first makes the pipe, and the others begin after that.
 fn script(alloc: Global, seed: u64, thread: u64) -> Result<String, AllocError> {
     let mut text = String::new(alloc);
     text.push_str(if thread == 0 { "pipe\n" } else { "work 50\n" })?;

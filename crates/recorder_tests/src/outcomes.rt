@@ -87,7 +87,8 @@ pub(crate) fn doors(
     alloc: Global,
     outcomes: Vec<Outcomes>,
 ) -> Result<Vec<ScriptDoors<OfThread>>, AllocError>
-    ensures { IfOk result (λ doors. All (λ d. (d.counts.given ≡ 0) × (d.counts.failures ≡ 0)) doors.items) }
+    ensures { IfOk result (λ doors. All (λ d. (d.counts.given ≡ 0) × (d.counts.failures ≡ 0))
+        doors.items) }
 {
     let mut doors = Vec::new(alloc);
     for list in outcomes {

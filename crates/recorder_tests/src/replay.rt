@@ -32,7 +32,8 @@ fn is_replayed_on_one(
     }
 }
 
-// By threads a log is written, which is the one replayed: of one thread byte by byte, and of more threads in another order.
+// By threads a log is written, which is the one replayed: of one
+// thread byte by byte, and of more threads in another order.
 fn is_replayed_by_threads<R: Threads + Wait + Sync>(
     rt: &R,
     alloc: Global,

@@ -172,7 +172,8 @@ fn is_recorded_as<R: Threads + Wait + Sync>(
     }
 }
 
-// Whether so many recorded runs tell the same as the plain one, and so many replays of their log, which is its own too, show what it did.
+// Whether so many recorded runs tell the same as the plain one, and so many
+// replays of their log, which is its own too, show what it did.
 fn are_as_plain<R: Threads + Wait + Sync>(
     rt: &R,
     alloc: Global,
@@ -251,7 +252,8 @@ const APPENDER: &[u8] =
 
 const APPENDERS: &[&[u8]] = &[APPENDER; 16];
 
-// Each thread opens one file, appends ten bytes at descriptor 0, reads what is there and closes it, so that all contend.
+// Each thread opens one file, appends ten bytes at descriptor 0,
+// reads what is there and closes it, so that all contend.
 #[test]
 fn sixteen_that_contend(rt: HostRuntime) -> Result<(), Fail> {
     assert!(rt; are_as_plain(&rt, rt.alloc(), run_of(APPENDERS, 1000), 300, 0)?);

@@ -84,7 +84,7 @@ const STOPPED: &[(&[Came], usize, Stop)] = &[
         1000,
         Stop::Diverged(0, 1),
     ),
-    // the log is full inside its header, behind it, and inside the first record and the second
+    // the log is full inside its header, after it, and inside the first record and the second
     (CAME, 0, Stop::Sink),
     (CAME, 15, Stop::Sink),
     (CAME, 16, Stop::Sink),

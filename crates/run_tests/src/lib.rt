@@ -1,4 +1,5 @@
-//! The tests of plain runs, of machines under drivers by chance and of the history of a replay: what a run or a replay prints
+//! The tests of plain runs, of machines under drivers by chance and of
+//! the history of a replay: what a run or a replay prints
 //! is in `examples/`. They stand in a crate of their own since a crate with tests is proved twice.
 #![tactic(auto)]
 

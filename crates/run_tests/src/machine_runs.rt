@@ -296,7 +296,8 @@ const NINE_TURNS: Settings = Settings {
     version: 1,
 };
 
-// The log of what came for the diverging scripts, up to the outcome that does not answer: examples/log-of-a-diverged-run
+// The log of what came for the diverging scripts, up to the outcome
+// that does not answer: examples/log-of-a-diverged-run
 // replays it.
 const FOUND_LOG: &[u8] = b"DIOL\0\x01\0\x02\0\0\0\x09\0\0\0\x03\
     R\0\0\0\0\0\0\x01\0\0\0\0\0\0\0\0\0\0\0";

@@ -99,7 +99,7 @@ fn run(alloc: Global, machine: &mut Driven) -> Result<bool, Refused> {
 
 // ## What comes of it
 
-// Whether these are blocked turns of the second thread, from 6 on, each 4 behind the one before.
+// Whether these are blocked turns of the second thread, from 6 on, each 4 after the one before.
 fn were_blocked(rows: &[PackedRow]) -> bool {
     let mut clock = 6_u64;
     for row in rows {
@@ -111,7 +111,8 @@ fn were_blocked(rows: &[PackedRow]) -> bool {
     true
 }
 
-// A pipe at 1. The read is made at 6 and again at 10, 14, 18 and 22. The write behind the work is at 25, and so the read has its byte at 28.
+// A pipe at 1. The read is made at 6 and again at 10, 14, 18 and 22. The write
+// after the work is at 25, and so the read has its byte at 28.
 fn is_whole(rows: &[PackedRow]) -> bool {
     match rows {
         [pipe, blocked @ .., write, read, open] => {
@@ -139,7 +140,8 @@ fn comes_to_its_end(alloc: Global) -> Result<bool, Fail> {
     Ok(run(alloc, &mut machine)? && is_over(machine))
 }
 
-// Whichever allocation is refused, by `rt try --test --fail-alloc`, the run is the same: `ask` and `again` say that there is no memory, change
+// Whichever allocation is refused, by `rt try --test --fail-alloc`, the run is
+// the same: `ask` and `again` say that there is no memory, change
 // nothing, and are made when they are asked again. See tools/refused-allocations.
 #[test]
 fn asks_again_where_memory_was_refused(rt: HostRuntime) -> Result<(), Fail> {

@@ -1,5 +1,5 @@
 -- Believed: a contract of a command stands on it.
--- A run with a lane for each thread: a column of its calls, and the rows in the order of their turns.
+-- A run with a lane for each thread: a column of its calls, and rows in the order of their turns.
 use Rattle.std.specs.Prelude.{◌≡◌, ℕ, ◌+◌, ◌-◌, Bool, true, false, List, [], ◌∷◌, ◌++◌, Option}
 use Rattle.std.specs.Prelude.{Some, None, codes, length, map, max, replicate, take}
 use Rattle.std.specs.Fmt.{decimal}

@@ -2,9 +2,9 @@
 ghost use Rattle.std.specs.Prelude.{◌≡◌, ◌++◌, ◌-◌, [], IfOk, OnOk, codes, map, take};
 ghost use Rattle.std.specs.Fmt.{decimal};
 ghost use Rattle.std.specs.List.{flat_map};
-ghost use Rattle.run_views.specs.Lanes.{LanesPrint, cell_text, empty_cells, heads, lane_row_text, lane_width};
-ghost use Rattle.run_views.specs.Lanes.{lane_widths, lanes_text, padded, padded_heads, spaces};
-ghost use Rattle.run_views.specs.Lanes.{turn_cell, turn_width};
+ghost use Rattle.run_views.specs.Lanes.{LanesPrint, cell_text, empty_cells, heads, lane_row_text};
+ghost use Rattle.run_views.specs.Lanes.{lane_width, lane_widths, lanes_text, padded};
+ghost use Rattle.run_views.specs.Lanes.{padded_heads, spaces, turn_cell, turn_width};
 ghost use Rattle.run_views.specs.Seen.{seen};
 
 use crate::asked::push_asked;

@@ -37,7 +37,7 @@ fn push_viewed_row(text: &mut Vec<u8>, view: View, placed: &PlacedRow<'_>) -> Re
     }
 }
 
-/// Adds the line of a row, with what its call was asked and, if that is asked, the clock of its turn:
+/// Adds the line of a row, with what its call was asked and, if `turns` is, the clock of its turn:
 /// the thread, the number of the row among its own, the call, `=` and the reply.
 pub fn push_call_row(
     text: &mut Vec<u8>,

@@ -20,7 +20,7 @@ pub struct View {
     pub calls: bool,
     /// Whether the rows of all threads are printed in the order of their turns.
     pub by_turn: bool,
-    /// Whether each thread has a column of its own; then the rows have the order of their turns too.
+    /// Whether each thread has a column of its own. Then the rows are in the order of their turns.
     pub lanes: bool,
 }
 

@@ -131,7 +131,8 @@ fn blocked_text(alloc: Global, turns: u32) -> Result<String, AllocError> {
     format!(in alloc; ", after {turns} turns in which it was blocked")
 }
 
-// Where thread i waits for the table, and the one that keeps it makes a blocked call again and again: that is what starves it.
+// Where thread i waits for the table, and the one that keeps it makes a
+// blocked call again and again: that is what starves it.
 fn starving_text<S: LogSink, D: Drop>(
     alloc: Global,
     machine: &Machine<S, D>,

@@ -25,7 +25,8 @@ pub(crate) fn line_of<S: LogSink, D: Drop>(
     Some(text_line(text, place))
 }
 
-// How many lines of its script lie before the next one of thread i: its script is followed again, with the replies that it had.
+// How many lines of its script lie before the next one of thread i: its
+// script is followed again, with the replies that it had.
 fn place_of<S: LogSink, D: Drop>(
     machine: &Machine<S, D>,
     i: usize,
@@ -59,7 +60,8 @@ fn next_reply<'a>(rows: &mut &'a [PackedRow], i: usize) -> Result<Option<Reply>,
     Ok(None)
 }
 
-// The number, from 1, of the line of this text that has so many lines of a script up to it and itself. Empty lines, lines of spaces and
+// The number, from 1, of the line of this text that has so many lines of a
+// script up to it and itself. Empty lines, lines of spaces and
 // comments do not count.
 fn text_line(text: &[u8], place: usize) -> usize {
     let mut left = place;

@@ -1,4 +1,5 @@
-ghost use Rattle.std.specs.Prelude.{◌≡◌, ℕ, List, ◌++◌, IfOk, OnOk, is_some, option_copied, slice_get};
+ghost use Rattle.std.specs.Prelude.{◌≡◌, ℕ, List, ◌++◌, IfOk, OnOk, is_some, option_copied};
+ghost use Rattle.std.specs.Prelude.{slice_get};
 ghost use Rattle.stop_reasons.specs.Found.{line_asked};
 ghost use Rattle.stop_reasons.specs.Reasons.{IsReason, RecordSays, asked, asked_line, end_words};
 ghost use Rattle.stop_reasons.specs.Reasons.{found_words, known_line_words, line_words};
@@ -35,8 +36,8 @@ pub fn stop_reason(
     stop: Option<Stop>,
 ) -> Result<Vec<u8>, AllocError>
     ensures { IfOk result (λ lines.
-        IsReason run.entry.texts.now run.entry.transcripts.now run.entry.rows.now (option_copied run.entry.log) stop
-        lines.items) }
+        IsReason run.entry.texts.now run.entry.transcripts.now run.entry.rows.now
+        (option_copied run.entry.log) stop lines.items) }
 {
     match stop {
         Some(Stop::EndOfLog(thread)) => missing_reason(alloc, run, thread),
@@ -66,7 +67,8 @@ fn other_reason(
 ) -> Result<Vec<u8>, AllocError>
     ensures { IfOk result (λ lines.
         (had : List ℕ) × RecordSays (option_copied run.entry.log) thread number had
-        × (lines.items ≡ asked run.entry.texts.now run.entry.transcripts.now run.entry.rows.now thread ++ had)) }
+        × (lines.items
+        ≡ asked run.entry.texts.now run.entry.transcripts.now run.entry.rows.now thread ++ had)) }
 {
     let mut text = asked_text(alloc, run, thread)?;
     let had = record_text(alloc, run.log, thread, number)?;
@@ -77,7 +79,8 @@ fn other_reason(
 // What this thread asked, and where.
 fn asked_text(alloc: Global, run: StoppedRun<'_>, thread: usize) -> Result<Vec<u8>, AllocError>
     ensures { IfOk result (λ text.
-        text.items ≡ asked run.entry.texts.now run.entry.transcripts.now run.entry.rows.now thread) }
+        text.items
+        ≡ asked run.entry.texts.now run.entry.transcripts.now run.entry.rows.now thread) }
 {
     let line = line_asked(alloc, run.texts, run.transcripts, thread)?;
     let mut text = Vec::new(alloc);
@@ -168,7 +171,8 @@ fn push_missing(
     rows: &[PackedRow],
     thread: usize,
 ) -> Result<(), AllocError>
-    ensures { OnOk result (text.new.items ≡ text.old.items ++ missing_line has_log rows.now thread) }
+    ensures { OnOk result (
+        text.new.items ≡ text.old.items ++ missing_line has_log rows.now thread) }
 {
     if has_log {
         push_no_record(text, outcomes_of(rows, thread), thread)

@@ -1,7 +1,7 @@
 ghost use Rattle.std.specs.Prelude.{◌≡◌, ◌<◌, IfOk};
 
 use crate::words::doors::{Came, is_so, plain, success};
-use host_doors::{DoorStop, Outside, PairGate, OutcomePlace, ScriptDoor, ScriptDoors};
+use host_doors::{DoorStop, OutcomePlace, Outside, PairGate, ScriptDoor, ScriptDoors};
 use posix_terms::{Errno, Given, OutKind, Outcome, Outcomes};
 use std::alloc::{AllocError, Global};
 use std::io;
@@ -63,7 +63,10 @@ fn pair<C: Clock + Clone + Drop>(alloc: Global, clock: C) -> Result<Pair<C>, All
 }
 
 /// What comes of a read at a place.
-fn read<C: Clock>(doors: &mut ScriptDoors<PairGate<C>>, place: OutcomePlace) -> Result<Outcome, DoorStop>
+fn read<C: Clock>(
+    doors: &mut ScriptDoors<PairGate<C>>,
+    place: OutcomePlace,
+) -> Result<Outcome, DoorStop>
     requires room { doors.old.counts.given < 1000 }
     requires few { doors.old.counts.failures < 1000 }
 {

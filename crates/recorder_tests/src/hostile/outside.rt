@@ -87,7 +87,8 @@ const CASES: &[Case] = &[
                 E\0\0\0\x04",
         },
     },
-    // It would block and has no patience, so the third call, of two bytes, meets the count of three. That is not in the log.
+    // It would block and has no patience, so the third call, of two
+    // bytes, meets the count of three. That is not in the log.
     Case {
         patience: 1,
         came: WOULD_BLOCK,

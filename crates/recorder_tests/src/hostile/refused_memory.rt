@@ -16,8 +16,10 @@ use std::test::Fail;
 use std::thread::Threads;
 use thread_scripts::{Actor, Memory, ScriptActor, ScriptFault, Step, parse};
 
-// Each test here makes its calls twice, and has to pass whichever allocation is refused, by `rt try --test --fail-alloc`: since that is one, each answer is
-// whole or says that there is no memory, and one of two is whole. What a test itself wants memory for counts as such an answer. See
+// Each test here makes its calls twice, and has to pass whichever allocation is
+// refused, by `rt try --test --fail-alloc`: since that is one, each answer is
+// whole or says that there is no memory, and one of two is whole. What a
+// test itself wants memory for counts as such an answer. See
 // tools/refused-allocations.
 
 const RUNS: &[(Run, Wanted)] = &[
@@ -63,7 +65,8 @@ fn parse_is_whole_or_wants_memory(rt: HostRuntime) {
     }
 }
 
-// The next step of an actor that hears no reply. Without memory it is as it was, and gives the same step when it is asked again.
+// The next step of an actor that hears no reply. Without memory it is as
+// it was, and gives the same step when it is asked again.
 fn next(actor: &mut ScriptActor) -> Result<Step, Memory> {
     match actor.next(None) {
         Ok(step) => Ok(step),
@@ -80,7 +83,7 @@ fn is_step(step: &Step, line: &[u8]) -> bool {
     }
 }
 
-// What an actor's steps tell, one for each line of its text; behind the last is its end.
+// What an actor's steps tell, one for each line of its text; after the last is its end.
 fn steps(alloc: Global, text: &[u8]) -> Result<Told, AllocError> {
     let Ok(script) = parse(alloc, text) else {
         return Err(AllocError);

@@ -15,7 +15,8 @@ use std::alloc::{AllocError, Global};
 use std::sync::Wait;
 use std::thread::Threads;
 
-// What a run or a replay told: all that is wanted of it; that there is no memory, and what came before is a beginning of what is wanted;
+// What a run or a replay told: all that is wanted of it; that there is no
+// memory, and what came before is a beginning of what is wanted;
 // or something else.
 #[derive(Clone, Copy, Debug, PartialEq, Eq)]
 pub(crate) enum Told {
@@ -32,7 +33,8 @@ pub(crate) fn memory_if(beginning: bool) -> Told {
     if beginning { Told::Memory } else { Told::Wrong }
 }
 
-// What a run tells that stopped so, whose threads saw this and which wrote this log. Where there was no memory each saw a
+// What a run tells that stopped so, whose threads saw this and which
+// wrote this log. Where there was no memory each saw a
 // beginning.
 fn shows(wanted: Wanted, stop: Option<Stop>, transcripts: &Transcripts, log: &[u8]) -> Told {
     if stop == Some(Stop::Memory) {

@@ -12,5 +12,6 @@ returns-in-Ok g c =
     (c.args.log.path.now, g.R.TextReader.remaining c.args.log.reader)
     (map (λ (s : Source g.row.R.Denot). (s.path.now, g.R.TextReader.remaining s.reader))
     c.args.sources.items))
-    c.in-Ok.printed c.print.result (g.W.Write.contents c.args.output.now) (g.W.Write.contents c.print.new.output) (g.E.Write.contents c.args.errors.now) (g.E.Write.contents c.print.new.errors)
+    c.in-Ok.printed c.print.result (g.W.Write.contents c.args.output.now) (g.W.Write.contents c.print.new.output)
+    (g.E.Write.contents c.args.errors.now) (g.E.Write.contents c.print.new.errors)
     c.in-Ok.ensures c.print.ensures

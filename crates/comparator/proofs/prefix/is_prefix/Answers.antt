@@ -6,5 +6,6 @@ pub returns : goal.returns
 returns c =
     let front = c.args.front.now in
     let whole = c.args.whole.now in
-    let told = starts_is c.equal_ones_are_the_same.ensures.rows whole front c.starts_with.result c.starts_with.ensures.value in
+    let told = starts_is c.equal_ones_are_the_same.ensures.rows whole front c.starts_with.result
+    c.starts_with.ensures.value in
     (λ h. (drop (length front) whole, sym (told.0 h)), λ h. told.1 h.0 (sym h.1))
