@@ -11,7 +11,7 @@ from collections.abc import Callable
 from typing import TYPE_CHECKING, NoReturn
 
 if TYPE_CHECKING:
-    import model
+    from detio_tools import model as model
 
 # How much of a line is noted: tools shorten what they say.
 NOTED = 200
@@ -38,6 +38,13 @@ class Answer:
     def option(self, name: str) -> str | None:
         """The value of an option, or None where it is not given."""
         return self.words[self.words.index(name) + 1] if name in self.words[:-1] else None
+
+    def path(self, name: str) -> str:
+        """The path that is the value of an option."""
+        found = self.option(name)
+        if found is None:
+            sys.exit(f"{self.command} has no {name}")
+        return found
 
     def lines(self, pattern: str) -> list[re.Match[str]]:
         """Where standard output has this pattern, in which ^ and $ are the ends of a line."""
@@ -79,7 +86,7 @@ class Answer:
         if self.status or path is None or not os.path.exists(path):
             return
         sys.path.append(os.path.dirname(os.path.dirname(os.path.realpath(__file__))))
-        import model  # only here, since it takes a while
+        from detio_tools import model  # only here, since it takes a while
 
         def changed(text: bytes) -> bytes:
             log = model.Log(text)

@@ -17,7 +17,7 @@ class Item:
 
     written: str
     about: str
-    notes: list = field(default_factory=list)
+    notes: list[str] = field(default_factory=list)
 
     @property
     def flags(self) -> list[str]:
@@ -53,12 +53,12 @@ class Help:
     """A help text in its parts. Above the usage and after the options stand lines of text."""
 
     name: str
-    above: list
+    above: list[str]
     usage: str = ""
-    commands: list = field(default_factory=list)
-    arguments: list = field(default_factory=list)
-    options: list = field(default_factory=list)
-    after: list = field(default_factory=list)
+    commands: list[Item] = field(default_factory=list)
+    arguments: list[Item] = field(default_factory=list)
+    options: list[Item] = field(default_factory=list)
+    after: list[str] = field(default_factory=list)
 
     @property
     def takes_paths(self) -> bool:
@@ -78,7 +78,7 @@ def parted(name: str, text: str) -> Help:
     lines = text.rstrip("\n").split("\n")
     at = next(number for number, line in enumerate(lines) if line.startswith("Usage: "))
     found = Help(name, stripped(lines[:at]), lines[at].removeprefix("Usage: "))
-    items = None
+    items: list[Item] | None = None
     for number, line in enumerate(lines[at + 1 :], at + 1):
         if line in HEADS:
             items = getattr(found, HEADS[line])

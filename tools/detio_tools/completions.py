@@ -1,18 +1,21 @@
 """What bash, zsh and fish are told of the command line, by its help texts: for tools/man."""
+from collections.abc import Iterable
+
+from detio_tools.helps import Help, Item
 
 MADE = "made by tools/man of the help texts"
 
 
-def quoted(text):
+def quoted(text: str) -> str:
     """One word of a shell."""
     return "'" + text.replace("'", "'\\''") + "'"
 
 
-def flags_of(options):
+def flags_of(options: Iterable[Item]) -> list[str]:
     return [flag for it in options for flag in it.flags]
 
 
-def bash(top, commands):
+def bash(top: Help, commands: list[Help]) -> str:
     names = " ".join(it.written for it in top.commands)
     lines = [
         f"# Completion of detio for bash, {MADE}.",
@@ -49,16 +52,16 @@ def bash(top, commands):
     return "\n".join(lines) + "\n"
 
 
-def bash_values(command):
+def bash_values(command: Help) -> dict[str, list[str]]:
     """What is done for a value of an option, and after which words."""
-    found = {}
+    found: dict[str, list[str]] = {}
     for option in command.options:
         if option.values and not option.is_value_optional:
             found.setdefault(bash_value(option), []).extend(f"{command.name},{flag}" for flag in option.flags)
     return found
 
 
-def bash_value(option):
+def bash_value(option: Item) -> str:
     if option.choices:
         return f"mapfile -t COMPREPLY < <(compgen -W {quoted(' '.join(option.choices))} -- \"$word\"); return"
     if option.is_path or option.is_folder:
@@ -66,7 +69,7 @@ def bash_value(option):
     return "return"
 
 
-def zsh(top, commands):
+def zsh(top: Help, commands: list[Help]) -> str:
     lines = [
         "#compdef detio",
         f"# Completion of detio for zsh, {MADE}.",
@@ -101,7 +104,7 @@ def zsh(top, commands):
     return "\n".join(lines) + "\n"
 
 
-def zsh_option(option):
+def zsh_option(option: Item) -> str:
     about = option.about
     for char in "\\[]:":
         about = about.replace(char, "\\" + char)
@@ -112,18 +115,18 @@ def zsh_option(option):
     return quoted(f"{option.flags[0]}{joined}[{about}]{values}")
 
 
-def zsh_argument(argument):
+def zsh_argument(argument: Item) -> str:
     many = "*" if argument.written.endswith("...") else "1"
     return quoted(f"{many}:{argument.values[0]}:{zsh_value(argument)}")
 
 
-def zsh_value(option):
+def zsh_value(option: Item) -> str:
     if option.choices:
         return f"({' '.join(option.choices)})"
     return "_files" if option.is_path else "_files -/" if option.is_folder else " "
 
 
-def fish(top, commands):
+def fish(top: Help, commands: list[Help]) -> str:
     lines = [f"# Completion of detio for fish, {MADE}.", "complete -c detio -f"]
     first, names = "complete -c detio -n __fish_use_subcommand", " ".join(it.written for it in top.commands)
     lines += [f"{first} {fish_option(it)}" for it in top.options]
@@ -136,16 +139,16 @@ def fish(top, commands):
     return "\n".join(lines) + "\n"
 
 
-def fish_word(text):
+def fish_word(text: str) -> str:
     return "'" + text.replace("\\", "\\\\").replace("'", "\\'") + "'"
 
 
-def fish_option(option):
+def fish_option(option: Item) -> str:
     names = " ".join(f"-l {it[2:]}" if it.startswith("--") else f"-s {it[1:]}" for it in option.flags)
     return f"{names}{fish_value(option)} -d {fish_word(option.about)}"
 
 
-def fish_value(option):
+def fish_value(option: Item) -> str:
     if option.choices:
         return f" -x -a {fish_word(' '.join(option.choices))}"
     if option.is_path:

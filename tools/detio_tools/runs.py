@@ -6,10 +6,12 @@ import os
 import subprocess
 import sys
 import time
-from collections.abc import Callable, Iterator
+from collections.abc import Callable, Iterable, Iterator
 from concurrent.futures import ProcessPoolExecutor
+from typing import TypeVar
 
-TOP = os.path.dirname(os.path.dirname(os.path.realpath(__file__)))
+from detio_tools.repository import TOP
+
 PROGRAM = TOP + "/crates/detio_cmd/out/detio_cmd"
 UNPROVED = TOP + "/crates/detio_cmd/out/unproved"
 SECONDS = 30
@@ -20,6 +22,7 @@ PASSED = ["PATH", "DETIO", "DETIO_WRONG"]
 
 # The status of a run, or "hung", its standard output and its standard error.
 Answer = tuple[int | str, str, str]
+T = TypeVar("T")
 
 
 def program_of(path: str | None) -> str:
@@ -43,20 +46,23 @@ def answer(words: list[str], folder: str, more: dict[str, str] | None = None, se
     return ran.returncode, ran.stdout.decode("latin-1"), ran.stderr.decode("latin-1")
 
 
-def in_parts(
-    name: str, work: Callable[..., tuple], program: str, asked: argparse.Namespace, size: int
-) -> Iterator[tuple]:
+# What counts some runs: it is called with the program, the seed and the numbers of the runs, and returns what it
+# counted, with the first failure, or None.
+Work = Callable[[str, str, Iterable[int]], tuple[T, str | None]]
+
+
+def in_parts(name: str, work: Work[T], program: str, asked: argparse.Namespace, size: int) -> Iterator[T]:
     """Has `work` make the runs that are asked for, asked.jobs parts of `size` runs at a time, and yields what it
-    answers of each. It is called with the program, the seed and the numbers; the last that it answers is a failure,
-    which ends all, or None."""
-    begun, told, last = time.time(), 0, asked.first + asked.count
+    counted of each. A failure ends all."""
+    begun, told, last = time.time(), 0.0, asked.first + asked.count
     parts = [range(at, min(at + size, last)) for at in range(asked.first, last, size)]
     with ProcessPoolExecutor(asked.jobs, multiprocessing.get_context("fork")) as pool:
-        for part, found in zip(parts, pool.map(work, [program] * len(parts), [asked.seed] * len(parts), parts)):
-            if found[-1]:
+        counts = pool.map(work, [program] * len(parts), [asked.seed] * len(parts), parts)
+        for part, (counted, failure) in zip(parts, counts):
+            if failure:
                 pool.shutdown(cancel_futures=True)
-                sys.exit(f"{name}: failed\n{found[-1]}")
-            yield found
+                sys.exit(f"{name}: failed\n{failure}")
+            yield counted
             if time.time() > told + 2:
                 told, done = time.time(), part[-1] + 1 - asked.first
                 print(f"{name}: {done} of {asked.count} runs, {told - begun:.0f} seconds", file=sys.stderr, flush=True)
@@ -88,4 +94,5 @@ def difference(text: str, wanted: str) -> str:
 
 
 def shortened(text: str) -> str:
+    """A text without its middle, where it is long."""
     return text if len(text) <= 2000 else f"{text[:1000]} .. {text[-1000:]}"
