@@ -1,12 +1,13 @@
 -- No float is among the values of runs and logs, so their texts are known.
 use Rattle.std.proofs.Common.{◌≡◌, ℕ, ℤ, pos, negsuc, Bool, true, false, ◌||◌, List, [], ◌∷◌, ◌++◌, Option, Some, None}
-use Rattle.std.proofs.Common.{Ordering, Less, Equal, Greater, nat_cmp, if◌then◌else◌, codes, refl}
+use Rattle.std.proofs.Common.{Ordering, Less, Equal, Greater, nat_cmp, if◌then◌else◌, codes, map, refl}
 use Rattle.std.specs.Cmp.Lexicographic.{slice_cmp}
 use Rattle.std.specs.Ordering.{match_ordering}
+use Rattle.call_operands.specs.Operands as said
+use Rattle.call_operands.specs.Operands.{NamedSaid, Said, operands_of}
 use Rattle.posix_terms.specs.Calls.{Call}
 use Rattle.posix_terms.specs.Errors.{name_of}
 use Rattle.posix_terms.specs.Replies.{kind_code}
-use Rattle.posix_terms.specs.declared.call.Call.TheVariants as call
 use Rattle.posix_terms.specs.declared.call.OpenFlags.{OpenFlags}
 use Rattle.posix_terms.specs.declared.reply.Reply.{Reply}
 use Rattle.posix_terms.specs.declared.reply.Reply.TheVariants as reply
@@ -14,8 +15,8 @@ use Rattle.serde_json.specs.Data.{Data, Members, boolean, no_members, member, pu
 use Rattle.serde_json.specs.View.{items_of}
 use Rattle.serde_json.specs.Written.{has_float, items_have_float, members_have_float}
 use Rattle.thread_scripts.specs.Words.{is_ascii}
-use Rattle.json_views.specs.Calls.{arguments_of, arguments_value, flag_word, flags_value, number_value}
-use Rattle.json_views.specs.Calls.{pair_value, reply_value, stat_value, status_flags}
+use Rattle.json_views.specs.Calls.{arguments_of, arguments_value, flag_word, flags_value, member_of}
+use Rattle.json_views.specs.Calls.{number_value, pair_value, reply_value, said_value, stat_value}
 use Rattle.json_views.specs.Objects.{Member, count_value, hex_value, object_of, optional_value, text_value}
 use Rattle.json_views.specs.Objects.{with_members}
 
@@ -93,40 +94,19 @@ flags_exact flags =
     (flag_exact flags.append (codes "append") last
     (last_exact flags.nonblock (codes "nonblock")))))
 
-arguments_are_exact : (c : Call) → AreExact (arguments_of c)
-unfolding arguments_of
-arguments_are_exact (call.Open path access flags) = (text_exact path, (refl, (flags_exact flags, tt)))
-arguments_are_exact (call.Close descriptor) = (number_exact descriptor, tt)
-arguments_are_exact (call.Read descriptor count) = (number_exact descriptor, (number_exact count, tt))
-arguments_are_exact (call.Write descriptor bytes) = (number_exact descriptor, (refl, tt))
-arguments_are_exact (call.Pread descriptor count position) =
-    (number_exact descriptor, (number_exact count, (number_exact position, tt)))
-arguments_are_exact (call.Pwrite descriptor bytes position) =
-    (number_exact descriptor, (refl, (number_exact position, tt)))
-arguments_are_exact (call.Lseek descriptor offset whence) = (number_exact descriptor, (number_exact offset, (refl, tt)))
-arguments_are_exact (call.Ftruncate descriptor size) = (number_exact descriptor, (number_exact size, tt))
-arguments_are_exact (call.Fstat descriptor) = (number_exact descriptor, tt)
-arguments_are_exact (call.Dup descriptor) = (number_exact descriptor, tt)
-arguments_are_exact (call.DupFrom descriptor least) = (number_exact descriptor, (number_exact least, tt))
-arguments_are_exact (call.Dup2 descriptor target) = (number_exact descriptor, (number_exact target, tt))
-arguments_are_exact (call.Getfl descriptor) = (number_exact descriptor, tt)
-arguments_are_exact (call.Setfl descriptor append nonblock) =
-    (number_exact descriptor, (flags_exact (status_flags append nonblock), tt))
-arguments_are_exact (call.Link old_path new_path) = (text_exact old_path, (text_exact new_path, tt))
-arguments_are_exact (call.Unlink path) = (text_exact path, tt)
-arguments_are_exact (call.Rename old_path new_path) = (text_exact old_path, (text_exact new_path, tt))
-arguments_are_exact (call.Mkdir path) = (text_exact path, tt)
-arguments_are_exact (call.Rmdir path) = (text_exact path, tt)
-arguments_are_exact call.Pipe = tt
-arguments_are_exact call.Socketpair = tt
-arguments_are_exact (call.Shutdown descriptor how) = (number_exact descriptor, (refl, tt))
-arguments_are_exact (call.HostOpen path access flags) = (text_exact path, (refl, (flags_exact flags, tt)))
-arguments_are_exact (call.TcpListen port) = (number_exact port, tt)
-arguments_are_exact (call.TcpConnect port) = (number_exact port, tt)
-arguments_are_exact (call.TcpAccept descriptor) = (number_exact descriptor, tt)
+said_exact : (s : Said) → has_float (said_value s) ≡ false
+said_exact (said.Number n) = number_exact n
+said_exact (said.Bytes bytes) = refl
+said_exact (said.Path path) = text_exact path
+said_exact (said.Word word) = refl
+said_exact (said.Flags flags) = flags_exact flags
+
+members_exact : (operands : List NamedSaid) → AreExact (map member_of operands)
+members_exact [] = tt
+members_exact (operand ∷ more) = (said_exact operand.1, members_exact more)
 
 pub arguments_exact : (c : Call) → has_float (arguments_value c) ≡ false
-arguments_exact c = object_exact (arguments_of c) (arguments_are_exact c)
+arguments_exact c = object_exact (arguments_of c) (members_exact (operands_of c))
 
 one_exact : (name : List ℕ) (d : Data) → has_float d ≡ false → has_float (object_of ((name, d) ∷ [])) ≡ false
 one_exact name d exact = object_exact ((name, d) ∷ []) (exact, tt)

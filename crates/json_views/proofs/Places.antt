@@ -1,11 +1,18 @@
 -- Operands put one after another are put together.
-use Rattle.std.proofs.Common.{◌≡◌, List, [], ◌∷◌, take, drop, refl}
+use Rattle.std.proofs.Common.{◌≡◌, ◌++◌, List, Option, Some, None, map, refl}
+use Rattle.call_operands.specs.Seen.{operand_seen}
+use Rattle.call_operands.specs.declared.value.Operand.{Operand}
 use Rattle.serde_json.specs.Data.{Members}
+use Rattle.json_views.specs.Calls.{member_of}
 use Rattle.json_views.specs.Objects.{Member, with_members}
 
-pub by_place : (before : Members) (all : List Member)
-    → with_members (with_members (with_members before (take 1 all)) (take 1 (drop 1 all))) (drop 2 all)
-    ≡ with_members before all
-by_place before [] = refl
-by_place before (a ∷ []) = refl
-by_place before (a ∷ b ∷ rest) = refl
+abbrev members_of : Option Operand → List Member
+members_of o = map member_of (operand_seen o)
+
+pub by_place : (before : Members) (a b c : Option Operand)
+    → with_members (with_members (with_members before (members_of a)) (members_of b)) (members_of c)
+    ≡ with_members before (map member_of (operand_seen a ++ (operand_seen b ++ operand_seen c)))
+by_place before None None c = refl
+by_place before None (Some b) c = refl
+by_place before (Some a) None c = refl
+by_place before (Some a) (Some b) c = refl

@@ -3,4 +3,3 @@ pub mod Calls
 pub mod Rows
 pub mod Ends
 pub mod Logs
-pub mod Arguments

@@ -24,8 +24,8 @@
 
 mod arguments;
 mod ends;
+mod flags;
 mod logs;
-mod operand;
 mod replies;
 mod rows;
 mod values;

@@ -1,13 +1,12 @@
 // The operands of calls, each added to a text after a space.
 ghost use Rattle.std.specs.Prelude.{◌≡◌, ◌++◌, OnOk};
 ghost use Rattle.std.specs.List.{list_all};
-ghost use Rattle.run_views.specs.Calls.{access_operand, bytes_operand, bytes_text, flag_operand};
-ghost use Rattle.run_views.specs.Calls.{flags_operands, how_operand, is_bare, is_plain};
-ghost use Rattle.run_views.specs.Calls.{is_quotable, number_operand, path_operand, path_text};
-ghost use Rattle.run_views.specs.Calls.{status_flags_operands, whence_operand};
+ghost use Rattle.run_views.specs.Calls.{bytes_operand, bytes_text, flag_operand, flags_operands};
+ghost use Rattle.run_views.specs.Calls.{is_bare, is_plain, is_quotable, number_operand};
+ghost use Rattle.run_views.specs.Calls.{path_operand, path_text, word_operand};
 
 use command_texts::{push_data, push_signed, push_word};
-use posix_terms::{Access, OpenFlags, ShutdownHow, Whence};
+use posix_terms::OpenFlags;
 use std::alloc::AllocError;
 
 /// Adds a number.
@@ -34,7 +33,15 @@ pub(crate) fn push_path_operand(text: &mut Vec<u8>, path: &[u8]) -> Result<(), A
     push_path(text, path)
 }
 
-/// Adds the flags of a call that opens.
+/// Adds a word.
+pub(crate) fn push_word_operand(text: &mut Vec<u8>, word: &str) -> Result<(), AllocError>
+    ensures { OnOk result (text.new.items ≡ text.old.items ++ word_operand word.now) }
+{
+    push_word(text, " ")?;
+    push_word(text, word)
+}
+
+/// Adds the flags that are set.
 #[tactic(auto, unfolding(crate::specs::Calls::flags_operands))]
 pub(crate) fn push_flags_operands(text: &mut Vec<u8>, flags: OpenFlags) -> Result<(), AllocError>
     ensures { OnOk result (text.new.items ≡ text.old.items ++ flags_operands flags) }
@@ -42,53 +49,8 @@ pub(crate) fn push_flags_operands(text: &mut Vec<u8>, flags: OpenFlags) -> Resul
     push_flag_operand(text, flags.create, " create")?;
     push_flag_operand(text, flags.exclusive, " excl")?;
     push_flag_operand(text, flags.truncate, " trunc")?;
-    push_status_flags_operands(text, flags.append, flags.nonblock)
-}
-
-/// Adds the flags that can be set later too.
-pub(crate) fn push_status_flags_operands(
-    text: &mut Vec<u8>,
-    append: bool,
-    nonblock: bool,
-) -> Result<(), AllocError>
-    ensures { OnOk result (
-        text.new.items ≡ text.old.items ++ status_flags_operands append nonblock) }
-{
-    push_flag_operand(text, append, " append")?;
-    push_flag_operand(text, nonblock, " nonblock")
-}
-
-/// Adds from where an offset counts.
-pub(crate) fn push_whence_operand(text: &mut Vec<u8>, whence: Whence) -> Result<(), AllocError>
-    ensures { OnOk result (text.new.items ≡ text.old.items ++ whence_operand whence) }
-{
-    match whence {
-        Whence::Set => push_word(text, " set"),
-        Whence::Current => push_word(text, " cur"),
-        Whence::End => push_word(text, " end"),
-    }
-}
-
-/// Adds what of a socket is shut.
-pub(crate) fn push_how_operand(text: &mut Vec<u8>, how: ShutdownHow) -> Result<(), AllocError>
-    ensures { OnOk result (text.new.items ≡ text.old.items ++ how_operand how) }
-{
-    match how {
-        ShutdownHow::Read => push_word(text, " read"),
-        ShutdownHow::Write => push_word(text, " write"),
-        ShutdownHow::Both => push_word(text, " both"),
-    }
-}
-
-/// Adds how something is opened.
-pub(crate) fn push_access_operand(text: &mut Vec<u8>, access: Access) -> Result<(), AllocError>
-    ensures { OnOk result (text.new.items ≡ text.old.items ++ access_operand access) }
-{
-    match access {
-        Access::ReadOnly => push_word(text, " r"),
-        Access::WriteOnly => push_word(text, " w"),
-        Access::ReadWrite => push_word(text, " rw"),
-    }
+    push_flag_operand(text, flags.append, " append")?;
+    push_flag_operand(text, flags.nonblock, " nonblock")
 }
 
 // Adds the word of a flag, if it is set.
