@@ -1,0 +1,9 @@
+use Rattle.std.proofs.Common.{◌≡◌, ◌++◌, drop, map}
+use Rattle.std.specs.List.{flat_map}
+use Rattle.run_pictures.specs.Picture.{names_text}
+use Rattle.run_pictures.proofs.picture.push_names.Given as goal
+
+abbrev pub invariant-loop-i : goal.invariant-loop-i
+invariant-loop-i l =
+    l.text.items ++ flat_map names_text (drop l.i l.runs)
+    ≡ l.initial.text.items ++ flat_map names_text l.runs

@@ -1,0 +1,9 @@
+pub mod Boxes
+pub mod Escaped
+pub mod Kinds
+pub mod Laws
+pub mod Layout
+pub mod Page
+pub mod Picture
+pub mod Tables
+pub mod Trace
