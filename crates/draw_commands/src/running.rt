@@ -1,0 +1,47 @@
+// The runs of scripts that are drawn.
+ghost use Rattle.std.specs.Prelude.{◌≡◌, length, IfOk, true};
+ghost use Rattle.call_machine.specs.Plain.{counts_fit};
+ghost use Rattle.commands.specs.Ran.{RunRan};
+ghost use Rattle.draw_commands.specs.Runs.{PlainComes, TextsCome};
+
+use call_machine::{PlainFault, plain_run};
+use command_inputs::{ToRun, bad_settings, no_outcomes, to_run};
+use commands::{Ran, Run, run_ran};
+use posix_terms::{Bytes, Settings};
+use std::alloc::{AllocError, Global};
+use thread_scripts::Script;
+
+/// What comes of the plain run of the scripts of these texts.
+pub fn plain_ran(alloc: Global, settings: Settings, texts: &[Bytes]) -> Result<Ran, AllocError>
+    requires { counts_fit (length texts.now) (length texts.now) ≡ true }
+    ensures { IfOk result (TextsCome (PlainComes settings) texts.now) }
+{
+    match to_run(alloc, false, texts)? {
+        ToRun::Scripts(scripts) => scripts_ran(alloc, settings, scripts),
+        ToRun::Fault(printed) => Ok(Ran::Fault(printed)),
+    }
+}
+
+// What comes of the plain run of scripts.
+fn scripts_ran(alloc: Global, settings: Settings, scripts: Vec<Script>) -> Result<Ran, AllocError>
+    requires { counts_fit (length scripts.items) (length scripts.items) ≡ true }
+    ensures { IfOk result (PlainComes settings scripts.items) }
+{
+    let outcomes = no_outcomes(alloc, scripts.len())?;
+    match plain_run(alloc, scripts, outcomes, settings) {
+        Ok(plain) => Ok(Ran::Run(Run::of_plain(plain))),
+        Err(PlainFault::Memory) => Err(AllocError),
+        Err(PlainFault::Threads) => unreachable!(),
+        Err(PlainFault::Settings) => Ok(Ran::Fault(bad_settings(alloc)?)),
+    }
+}
+
+/// What comes of the replay of a log with the scripts of these texts.
+pub fn log_ran(alloc: Global, log: &[u8], texts: &[Bytes]) -> Result<Ran, AllocError>
+    ensures { IfOk result (TextsCome (RunRan log.now) texts.now) }
+{
+    match to_run(alloc, false, texts)? {
+        ToRun::Scripts(scripts) => run_ran(alloc, log, scripts),
+        ToRun::Fault(printed) => Ok(Ran::Fault(printed)),
+    }
+}
