@@ -10,8 +10,8 @@ _detio() {
   fi
   ((COMP_CWORD < 2)) || command=${COMP_WORDS[1]}
   case $command in
-    '') options='check plain explore faults minimise record replay compare show make upgrade help -h --help -V --version' ;;
-    help) options='check plain explore faults minimise record replay compare show make upgrade help' ;;
+    '') options='check plain explore faults minimise record replay compare draw show make upgrade help -h --help -V --version' ;;
+    help) options='check plain explore faults minimise record replay compare draw show make upgrade help' ;;
     check) options='--why -h --help' paths=yes ;;
     plain) options='--patience --door-cost --turns --calls --by-turn --lanes --json --expect --why -h --help' paths=yes ;;
     explore) options='--seeds --delays --most --only --reach --jobs --write --patience --door-cost --log --why -h --help' paths=yes ;;
@@ -20,6 +20,7 @@ _detio() {
     record) options='--log --log-version --force --wait --in-turn --follow --patience --door-cost --turns --calls --by-turn --lanes --json --expect --why -h --help' paths=yes ;;
     replay) options='--log --threads --turns --calls --by-turn --lanes --json --expect --why -h --help' paths=yes ;;
     compare) options='--log --with --rows --no-turns --why -h --help' paths=yes ;;
+    draw) options='--out --trace --log --with --patience --door-cost --why -h --help' paths=yes ;;
     show) options='--log --json --why -h --help' ;;
     make) options='--out --force --why -h --help' paths=yes ;;
     upgrade) options='--log --out --force --why -h --help' paths=yes ;;
@@ -39,6 +40,8 @@ _detio() {
     record,--log-version | record,--wait | record,--patience | record,--door-cost) return ;;
     replay,--log) compopt -o default; return ;;
     compare,--log | compare,--with) compopt -o default; return ;;
+    draw,--out | draw,--trace | draw,--log | draw,--with) compopt -o default; return ;;
+    draw,--patience | draw,--door-cost) return ;;
     show,--log) compopt -o default; return ;;
     make,--out) compopt -o default; return ;;
     upgrade,--log | upgrade,--out) compopt -o default; return ;;

@@ -10,6 +10,7 @@ complete -c detio -n __fish_use_subcommand -a minimise -d 'Reduces failing scrip
 complete -c detio -n __fish_use_subcommand -a record -d 'Runs 1 to 16 scripts as threads, with host files and loopback TCP, and records what comes from them'
 complete -c detio -n __fish_use_subcommand -a replay -d 'Runs scripts by the log of what came from outside and prints their transcripts'
 complete -c detio -n __fish_use_subcommand -a compare -d 'Says whether two logs give the threads of the same scripts the same replies'
+complete -c detio -n __fish_use_subcommand -a draw -d 'Draws a run, or two under each other, as a page for a browser'
 complete -c detio -n __fish_use_subcommand -a show -d 'Prints a log'
 complete -c detio -n __fish_use_subcommand -a make -d 'Makes a log of the text that detio show prints of it'
 complete -c detio -n __fish_use_subcommand -a upgrade -d 'Writes a log of version 1 in version 2, with the clocks that its scripts give it'
@@ -93,6 +94,15 @@ complete -c detio -n '__fish_seen_subcommand_from compare' -l no-turns -d 'Compa
 complete -c detio -n '__fish_seen_subcommand_from compare' -l why -d 'Adds after a fault why the host refused, or why a run stopped'
 complete -c detio -n '__fish_seen_subcommand_from compare' -s h -l help -d 'Print help (see a summary with \'-h\')'
 complete -c detio -n '__fish_seen_subcommand_from compare' -F
+complete -c detio -n '__fish_seen_subcommand_from draw' -l out -r -F -d 'The page to write, a new file'
+complete -c detio -n '__fish_seen_subcommand_from draw' -l trace -r -F -d 'The trace of the first run to write, a new file'
+complete -c detio -n '__fish_seen_subcommand_from draw' -l log -r -F -d 'The log to replay; - is standard input'
+complete -c detio -n '__fish_seen_subcommand_from draw' -l with -r -F -d 'A second log, whose replay is drawn under that of the first'
+complete -c detio -n '__fish_seen_subcommand_from draw' -l patience -x -d 'For how many turns a call may be blocked'
+complete -c detio -n '__fish_seen_subcommand_from draw' -l door-cost -x -d 'What a call that goes outside adds to the clock of its thread'
+complete -c detio -n '__fish_seen_subcommand_from draw' -l why -d 'Adds after a fault why the host refused, or why a run stopped'
+complete -c detio -n '__fish_seen_subcommand_from draw' -s h -l help -d 'Print help (see a summary with \'-h\')'
+complete -c detio -n '__fish_seen_subcommand_from draw' -F
 complete -c detio -n '__fish_seen_subcommand_from show' -l log -r -F -d 'The log to print; - is standard input'
 complete -c detio -n '__fish_seen_subcommand_from show' -l json -d 'Prints an object of JSON on each line'
 complete -c detio -n '__fish_seen_subcommand_from show' -l why -d 'Adds after a fault why the host refused, or why a run stopped'
@@ -108,4 +118,4 @@ complete -c detio -n '__fish_seen_subcommand_from upgrade' -l force -d 'Replaces
 complete -c detio -n '__fish_seen_subcommand_from upgrade' -l why -d 'Adds after a fault why the host refused, or why a run stopped'
 complete -c detio -n '__fish_seen_subcommand_from upgrade' -s h -l help -d 'Print help (see a summary with \'-h\')'
 complete -c detio -n '__fish_seen_subcommand_from upgrade' -F
-complete -c detio -n '__fish_seen_subcommand_from help' -a 'check plain explore faults minimise record replay compare show make upgrade help'
+complete -c detio -n '__fish_seen_subcommand_from help' -a 'check plain explore faults minimise record replay compare draw show make upgrade help'

@@ -9,6 +9,8 @@ mod compares;
 #[cfg(test)]
 mod devices;
 #[cfg(test)]
+mod draws;
+#[cfg(test)]
 mod faults;
 #[cfg(test)]
 mod generated;

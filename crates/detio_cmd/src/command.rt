@@ -450,7 +450,7 @@ The last line is end where all threads came to their end and every record was us
   stop diverged THREAD NUMBER
   stop clock full
 
-At the end of the log, the thread that has the turn wants a record that is not there; all others went on
+At the end of the log, the thread that has the turn needs a record that is not there; all others went on
 as far as they could. The replay diverged where the record of this thread and number is of another kind
 than the call asks, or does not fit what it asks, or has a clock that is not that of the call's turn, or
 where no call asked for it. Then a script is not the one that was run, or the log is not of that run. The
@@ -458,7 +458,7 @@ lines before are what each thread saw until then.
 
 With --threads each script runs in a thread of its own, as under detio record. A replay that comes to its
 end prints the same lines. One that stops does so at once, wherever the other threads are: so how much each
-saw, and which stop is told where there are several, can change from run to run. The last line may then also
+saw, and which stop is printed where there are several, can change from run to run. The last line may then also
 be stop memory or stop strayed, as under detio record.
 
 What is not a log, and a log of another number of threads, has one line on standard error:
@@ -545,6 +545,48 @@ prints
   > end
 since the file was there in one run, and not in the other.";
 
+const DRAW_ABOUT: &str = "Draws a run, or two under each other, as a page for a browser";
+
+const DRAW_LONG_ABOUT: &str = "Draws a run, or two under each other, as a page for a browser.
+
+The scripts are run as by detio plain or, with --log, as by detio replay. With --with they are replayed by a
+second log too, and the second run is drawn under the first. How a run came to its end changes no status: a
+replay that stopped is drawn as far as it came.
+
+With --out the page is written to a new file. It is whole in itself: a browser opens it from the disk, in light
+and dark, and nothing is loaded from elsewhere. Each thread is a lane, and the logical clock goes from left to
+right, at the same place in both runs. It is cut where nothing begins or ends for more than 8 clocks. Each call
+that was answered is a box:
+  where it begins   the first turn that the call was granted
+  where it ends     4 clocks after the turn of its answer, or where the next call of its thread begins
+  its colour        blue in memory, green with an outcome from outside, red where it failed
+  hatched           the time for which it waited: it was granted turns, and was blocked
+  a triangle        an outcome from outside came: the number is that of its record among those of its thread
+  a thick edge      the first row that differs, of two runs: the same one as by detio compare
+  the line before   work of its thread, an outcome that was waited for, or attempts at a lock that failed
+The pointer on a box shows its call, its reply, its row, its line and its turns. Below are the same rows as
+tables.
+
+With --trace a trace of the first run is written to a new file, in the trace event format, which is JSON.
+Perfetto and other viewers of traces read it. A clock counts as a microsecond.
+
+One of --out and --trace is to be given, or both. The path of each file that was written is printed.
+
+Exit statuses:
+  0  the files were written
+  2  wrong usage
+  3  a bad script or log
+  4  a file that cannot be read or written, no memory";
+
+const DRAW_AFTER_HELP: &str = "Example: a read of a pipe that waits for another thread to write
+  printf 'pipe\\nwork 20\\nwrite 1 x7a\\n' > writer.script
+  printf 'work 2\\nread 0 1\\n' > reader.script
+  detio draw --out run.html --trace run.json writer.script reader.script
+
+prints
+  run.html
+  run.json";
+
 const SHOW_ABOUT: &str = "Prints a log";
 
 const SHOW_LONG_ABOUT: &str = "Prints a log.
@@ -589,7 +631,7 @@ const MAKE_LONG_ABOUT: &str = "Makes a log of the text that detio show prints of
 The text is what detio show prints, which detio show --help describes. So any log can be printed,
 changed in an editor, and made again: another outcome, a failure in place of a success, a record
 more or less. Of what detio show printed of a log, and nothing changed, exactly the bytes of that
-log are made. Nothing is printed where all went well.
+log are made. Nothing is printed where the log was made.
 
 Each line is to be just as detio show prints it: one space between words, no leading zeros,
 hexadecimal digits in lower case. The line feed at the end may be left out. The log is to be a good
@@ -631,7 +673,7 @@ const UPGRADE_LONG_ABOUT: &str =
 A record of version 1 does not say at which turn its outcome came. The scripts that were recorded tell it: they are
 replayed by the log, as detio replay does, and each record gets the clock of the turn that took it. The new log has
 the same header, but for its version, and the same records in the same order; and its end, where the old one has it. A
-replay by it prints the same, and notices more changes of a script. Nothing is printed where all went well.
+replay by it prints the same, and notices more changes of a script. Nothing is printed where the log was made.
 
 There is one script for each thread of the log, in the same order. Of a log that is torn after its header the
 records before the tear are upgraded, and the torn part is left out. A log that ends before its scripts do is upgraded
@@ -688,6 +730,7 @@ fn subcommands<'a>(alloc: Global) -> Result<Vec<Command<'a>>, AllocError> {
     subcommands.push(with_why(alloc, record(alloc)?)?)?;
     subcommands.push(with_why(alloc, replay(alloc)?)?)?;
     subcommands.push(with_why(alloc, compare(alloc)?)?)?;
+    subcommands.push(with_why(alloc, draw(alloc)?)?)?;
     subcommands.push(with_why(alloc, show(alloc)?)?)?;
     subcommands.push(with_why(alloc, make(alloc)?)?)?;
     subcommands.push(with_why(alloc, upgrade(alloc)?)?)?;
@@ -706,7 +749,7 @@ fn with_why<'a>(alloc: Global, command: Command<'a>) -> Result<Command<'a>, Allo
 // The program with no subcommand.
 fn program<'a>(alloc: Global) -> Result<Command<'a>, AllocError> {
     wants_subcommand(Command::new(alloc, "detio"))
-        .version("0.1.0")
+        .version("0.19.0")
         .about(ABOUT)
         .after_help(AFTER_HELP)
         .bin_name("detio")
@@ -795,10 +838,18 @@ fn explore<'a>(alloc: Global) -> Result<Command<'a>, AllocError> {
 }
 
 fn outcomes<'a>(alloc: Global) -> Result<Arg<'a>, AllocError> {
+    by_log(
+        alloc,
+        "The log whose outcomes the calls that go outside take; - is standard input",
+    )
+}
+
+// An option for a log, whose settings are those of the run.
+fn by_log<'a>(alloc: Global, help: &'a str) -> Result<Arg<'a>, AllocError> {
     Arg::new(alloc, "log")
         .long("log")
         .value_name("FILE")
-        .help("The log whose outcomes the calls that go outside take; - is standard input")
+        .help(help)
         .conflicts_with("patience")?
         .conflicts_with("door-cost")
 }
@@ -1051,6 +1102,28 @@ fn no_turns<'a>(alloc: Global) -> Arg<'a> {
         .long("no-turns")
         .action(ArgAction::SetTrue)
         .help("Compares calls and replies alone, whatever the clocks of their turns")
+}
+
+fn draw<'a>(alloc: Global) -> Result<Command<'a>, AllocError> {
+    let out = Arg::new(alloc, "out")
+        .long("out")
+        .value_name("FILE")
+        .help("The page to write, a new file")
+        .required_unless_present("trace")?;
+    let trace = Arg::new(alloc, "trace")
+        .long("trace")
+        .value_name("FILE")
+        .help("The trace of the first run to write, a new file");
+    let with = Arg::new(alloc, "with")
+        .long("with")
+        .value_name("FILE")
+        .help("A second log, whose replay is drawn under that of the first")
+        .requires_arg("log")?;
+    let log = by_log(alloc, "The log to replay; - is standard input")?;
+    let command = described(alloc, "draw", DRAW_ABOUT, DRAW_LONG_ABOUT, DRAW_AFTER_HELP);
+    let command = command.arg(out)?.arg(trace)?.arg(log)?.arg(with)?;
+    let command = command.arg(patience(alloc))?.arg(door_cost(alloc))?;
+    command.arg(scripts(alloc))
 }
 
 fn show<'a>(alloc: Global) -> Result<Command<'a>, AllocError> {

@@ -2,6 +2,7 @@
 #![tactic(auto)]
 
 mod command;
+mod draw;
 mod explore;
 mod faults;
 mod input;
@@ -21,6 +22,7 @@ use commands::{
     replay_threads_over, settings_of, show_over, upgrade_over,
 };
 use compare_commands::{CompareOptions, compare_over};
+use draw::run_draw;
 use explore::{run_explore, run_minimise};
 use faults::run_faults;
 use host_doors::Outside;
@@ -123,6 +125,7 @@ fn run_command<O: Outside + Send + Drop, N: NewOutsides<O> + Drop, T: Threads + 
         "record" => run_record(host, handles, outsides, matches),
         "replay" => run_replay(host, handles, matches),
         "compare" => run_compare(host, matches),
+        "draw" => run_draw(host, matches),
         "show" => Ok(run_show(host, matches)),
         "make" => Ok(run_make(host, matches)),
         "upgrade" => run_upgrade(host, matches),

@@ -1,4 +1,4 @@
-use explore_commands::Progress;
+use explore_commands::ReportsProgress;
 use std::fs;
 use std::os::unix::fs::FileTypeExt;
 use std::time::{Duration, Instant};
@@ -28,7 +28,7 @@ impl<'a> ProgressLine<'a> {
     }
 }
 
-impl Progress for ProgressLine<'_> {
+impl ReportsProgress for ProgressLine<'_> {
     fn made(&mut self, runs: u64, of: u64, groups: usize) {
         let Some(begun) = self.begun else {
             return;

@@ -49,7 +49,7 @@ pub(crate) fn write_log(host: Host<'_>, to_write: ScriptsToWrite, path: &str) ->
 }
 
 // Writes these bytes to a new file, and prints its path; or a line that says that it cannot.
-fn write_new(host: Host<'_>, path: &str, bytes: &Bytes) -> bool {
+pub(crate) fn write_new(host: Host<'_>, path: &str, bytes: &Bytes) -> bool {
     if !is_new_with(host, path, bytes.as_slice()) {
         let _ = eprintln!(host.rt; "cannot write {path}");
         return false;
