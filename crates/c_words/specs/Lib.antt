@@ -1,0 +1,4 @@
+pub mod Calls
+pub mod Faults
+pub mod Requests
+pub mod Words
