@@ -1,0 +1,3 @@
+pub mod Brings
+pub mod Reading
+pub mod Values

@@ -1,0 +1,59 @@
+-- What each export promises of the session in its handle.
+use Rattle.std.specs.Prelude.{◌≡◌, ℕ, List, Option, Some, None, IfSome}
+use Rattle.lock_model.specs.Machine.{Event}
+use Rattle.lock_model.specs.Machine.Event.{Advances}
+use Rattle.machine.specs.Faithful.{IsFaithful}
+use Rattle.machine.specs.Runs.{Coming, Grows}
+use Rattle.machine.specs.Runs.Coming.{Asks, Brings}
+use Rattle.machine.specs.Shown.{Shown}
+use Rattle.posix_terms.specs.Calls.{Call}
+use Rattle.posix_terms.specs.declared.outcome.Given.{Given}
+use Rattle.posix_terms.specs.declared.outcome.Outcome.{Outcome}
+use Rattle.posix_terms.specs.declared.step.Step.TheVariants as step
+use Rattle.c_words.specs.Calls.{call_of}
+use Rattle.c_words.specs.Words.{outcome_of}
+use Rattle.c_words.specs.declared.words.CallWords.{CallWords}
+use Rattle.c_words.specs.declared.words.OutcomeWords.{OutcomeWords}
+use Rattle.detio_c.specs.declared.session.Session.{Session}
+
+-- the machine of the session, while its run goes on, is faithful
+abbrev pub IsFaithfulIn : Option Session → Type 0
+IsFaithfulIn o = IfSome o (λ s. IfSome s.machine (IsFaithful ℕ))
+
+-- every code from 3 on, but 9, says that nothing has changed: 9 is that the log has no room, for
+-- which the run is stopped
+abbrev pub IsRefusal : ℕ → Type 0
+IsRefusal code = ((code ≡ 0) → ⊥) × ((code ≡ 1) → ⊥) × ((code ≡ 2) → ⊥) × ((code ≡ 9) → ⊥)
+
+-- the run has grown by this event
+abbrev pub GrowsBy : Coming → Event → Option (Shown ℕ) → Option (Shown ℕ) → Type 0
+GrowsBy c e (Some old) (Some new) = Grows c e old.whole new.whole
+GrowsBy c e old new = ⊥
+
+-- the run of the session has
+abbrev pub HasGrown : Coming → Event → Option Session → Option Session → Type 0
+HasGrown c e (Some old) (Some new) = GrowsBy c e old.machine new.machine
+HasGrown c e old new = ⊥
+
+-- the run has grown by this call, if there is one
+abbrev pub AsksCall : Option Call → ℕ → Option (Shown ℕ) → Option (Shown ℕ) → Type 0
+AsksCall (Some c) i old new = GrowsBy (Asks (step.Call c)) (Advances i) old new
+AsksCall None i old new = ⊥
+
+-- the run of the session has grown by the call that C says
+abbrev pub HasAsked : CallWords → List ℕ → List ℕ → ℕ → Option Session → Option Session → Type 0
+HasAsked words text second i (Some old) (Some new) =
+    AsksCall (call_of words text second) i old.machine new.machine
+HasAsked words text second i old new = ⊥
+
+-- the run has grown by this outcome, if there is one
+abbrev pub BringsOutcome : Option Outcome → ℕ → Option (Shown ℕ) → Option (Shown ℕ) → Type 0
+BringsOutcome (Some o) i old new =
+    (given : Given) × (given.outcome ≡ o) × GrowsBy (Brings given) (Advances i) old new
+BringsOutcome None i old new = ⊥
+
+-- the run of the session has grown by the outcome that C says
+abbrev pub HasCome : OutcomeWords → List ℕ → ℕ → Option Session → Option Session → Type 0
+HasCome words bytes i (Some old) (Some new) =
+    BringsOutcome (outcome_of words bytes) i old.machine new.machine
+HasCome words bytes i old new = ⊥

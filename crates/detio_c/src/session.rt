@@ -1,0 +1,493 @@
+ghost use Rattle.std.specs.Prelude.{◌≡◌, ◌<◌, ℕ, IfErr, IfOk, IfSome, IsSomeAnd, OnErr, OnOk};
+ghost use Rattle.std.specs.Prelude.{false, length, option_copied};
+ghost use Rattle.c_words.specs.Words.{outcome_of};
+ghost use Rattle.c_words.specs.declared.fault.LibraryFault.TheVariants as fault;
+ghost use Rattle.lock_machine.specs.Refusals.{phase_at};
+ghost use Rattle.lock_model.specs.Machine.Event.{Advances};
+ghost use Rattle.machine.specs.Faithful.{IsFaithful};
+ghost use Rattle.machine.specs.Requests.{out_of};
+ghost use Rattle.machine.specs.Runs.Coming.{Asks, Nothing};
+ghost use Rattle.posix_terms.specs.declared.step.Step.TheVariants as step;
+ghost use Rattle.detio_c.specs.Begun.{Begins, BeginsReplay, outcomes_by, settings_said};
+ghost use Rattle.detio_c.specs.Promise.{BringsOutcome, GrowsBy};
+ghost use Rattle.detio_c.specs.Reads.{HasFinished, HasStopped, HasTurn, IsAtPhase, ReadsAnswer};
+ghost use Rattle.detio_c.specs.Reads.{ReadsLogOf, ReadsNext, ReadsRequest, Rests, came_for};
+ghost use Rattle.detio_c.specs.Reads.{door_along, next_logged, phase_code, unused_of, waits_in};
+
+use crate::ends::{doors_of, run_end};
+use crate::fault::fault_of;
+use c_words::{
+    LibraryFault, OutcomeWords, OutsideWords, ReplyWords, RunEnd, RunWords, outcome_of,
+    outcome_words, outside_words, put_front, reply_words, text_of,
+};
+use call_turns::TurnEnd;
+use input_log::{Header, LogWriter, MemorySink, Record, decode_front, outcomes_of};
+use machine::{Finished, Machine, Phase, Stop, are_in_range};
+use posix_terms::{Answer, Given, Limits, Outcome, Outcomes, Reply, Settings, Step};
+use std::alloc::{AllocError, Global};
+
+/// What a handle holds: the machine of a run while it goes on, and then what it left. A door is a number of the
+/// caller's, as a descriptor of the host.
+#[derive(Drop)]
+pub struct Session {
+    /// The machine, while the run goes on.
+    pub machine: Option<Machine<MemorySink, u64>>,
+    /// What it left.
+    pub left: Option<Finished<MemorySink>>,
+    // of a replay, by thread the outcomes that its log has
+    logged: Vec<Outcomes>,
+    // by thread how many outcomes came
+    came: Vec<u32>,
+}
+
+// So many attempts one call of settle makes.
+const ATTEMPTS: u32 = 4096;
+
+impl Session {
+    /// A run of so many threads, whose log has so much room.
+    pub fn new(alloc: Global, words: &RunWords) -> Result<Session, LibraryFault>
+        ensures { IfOk result (Begins (settings_said words.now) words.now.threads) }
+    {
+        let version = match words.version {
+            1 => 1,
+            2 => 2,
+            _ => return Err(LibraryFault::BadSettings),
+        };
+        let settings = Settings {
+            patience: words.patience,
+            door_cost: words.door_cost,
+            version,
+        };
+        Session::under(alloc, words.threads, settings, words.room)
+    }
+
+    #[tactic(auto, unfolding(input_log::specs::Grammar::in_range))]
+    fn under(
+        alloc: Global,
+        threads: usize,
+        settings: Settings,
+        room: usize,
+    ) -> Result<Session, LibraryFault>
+        ensures { IfOk result (Begins settings threads) }
+    {
+        if threads < 1 || threads > Limits::THREADS || !are_in_range(settings) {
+            return Err(LibraryFault::BadSettings);
+        }
+        let came = Vec::from_elem(alloc, 0, threads)?;
+        let sink = MemorySink::new(alloc, room)?;
+        let Ok(log) = LogWriter::begin(sink, Header::new(threads as u16, settings)) else {
+            return Err(LibraryFault::LogFull);
+        };
+        let Ok(machine) = Machine::new(alloc, threads, settings, log) else {
+            return Err(LibraryFault::NoMemory);
+        };
+        Ok(Session {
+            machine: Some(machine),
+            left: None,
+            logged: Vec::new(alloc),
+            came,
+        })
+    }
+
+    /// A replay of this log, under its header: as many threads, and room for the same log. A log that is torn is
+    /// replayed up to the tear.
+    pub fn replay(alloc: Global, log: &[u8]) -> Result<Session, LibraryFault>
+        ensures { IfOk result (BeginsReplay log.now) }
+    {
+        let Ok(text) = decode_front(alloc, log) else {
+            return Err(LibraryFault::NotALog);
+        };
+        let threads = usize::from(text.header.threads);
+        // A torn log has no end, which takes five bytes.
+        let room = log.len().saturating_add(5);
+        let logged = outcomes_by(alloc, threads, text.records.as_slice())?;
+        match Session::under(alloc, threads, text.header.settings(), room) {
+            Ok(session) => Ok(Session { logged, ..session }),
+            Err(fault) => Err(fault),
+        }
+    }
+
+    /// Thread i asks this step, which is not its end.
+    pub fn ask(&mut self, i: usize, asked: Step) -> Result<(), LibraryFault>
+        ensures grown { OnOk result
+            (GrowsBy (Asks asked) (Advances i) self.old.machine self.new.machine) }
+        ensures refused { OnErr result (self.new ≡ self.old) }
+    {
+        let Some(machine) = &mut self.machine else {
+            return Err(LibraryFault::Over);
+        };
+        if i >= machine.len() {
+            return Err(LibraryFault::NoThread);
+        }
+        machine.ask(i, asked).map_err(fault_of)
+    }
+
+    /// Thread i ends.
+    pub fn end(&mut self, i: usize) -> Result<(), LibraryFault>
+        ensures grown { OnOk result
+            (GrowsBy (Asks step.End) (Advances i) self.old.machine self.new.machine) }
+        ensures refused { OnErr result (self.new ≡ self.old) }
+    {
+        let Some(machine) = &mut self.machine else {
+            return Err(LibraryFault::Over);
+        };
+        if i >= machine.len() {
+            return Err(LibraryFault::NoThread);
+        }
+        machine.end(i).map_err(fault_of)
+    }
+
+    /// Thread i makes its blocked call again.
+    pub fn again(&mut self, i: usize) -> Result<(), LibraryFault>
+        ensures grown { OnOk result
+            (GrowsBy Nothing (Advances i) self.old.machine self.new.machine) }
+        ensures refused { OnErr result (self.new ≡ self.old) }
+    {
+        let Some(machine) = &mut self.machine else {
+            return Err(LibraryFault::Over);
+        };
+        if i >= machine.len() {
+            return Err(LibraryFault::NoThread);
+        }
+        machine.again(i).map_err(fault_of)
+    }
+
+    /// Makes the attempts that can be made, but not too many at once: whether there may be more. Where there are none,
+    /// whoever has the turn attempts no lock (`rests`).
+    pub fn settle(&mut self) -> Result<bool, LibraryFault>
+        ensures rests { IfOk result (λ more. more ≡ false → IsSomeAnd self.new.machine Rests) }
+    {
+        let Some(machine) = &mut self.machine else {
+            return Err(LibraryFault::Over);
+        };
+        if machine.stopped().is_some() {
+            return Err(LibraryFault::Stopped);
+        }
+        for _ in 0..ATTEMPTS {
+            let Some(i) = machine.turn_holder() else {
+                return Ok(false);
+            };
+            let made = match machine.phase(i) {
+                Phase::WantsTable { .. } => machine.try_table(i),
+                Phase::WantsObject { .. } => machine.try_node(i),
+                _ => return Ok(false),
+            };
+            if let Err(refused) = made {
+                return Err(fault_of(refused));
+            }
+        }
+        Ok(true)
+    }
+
+    /// Where thread i is, as C knows it.
+    pub fn phase(&self, i: usize) -> Result<u32, LibraryFault>
+        ensures { IfOk result (λ n. IsSomeAnd self.now.machine (IsAtPhase i n)) }
+    {
+        let Some(machine) = &self.machine else {
+            return Err(LibraryFault::Over);
+        };
+        if i >= machine.len() {
+            return Err(LibraryFault::NoThread);
+        }
+        Ok(phase_code(machine.phase(i)))
+    }
+
+    /// Whether thread i has the turn.
+    pub fn has_turn(&self, i: usize) -> Result<bool, LibraryFault>
+        ensures { IfOk result (λ has. IsSomeAnd self.now.machine (HasTurn i has)) }
+    {
+        let Some(machine) = &self.machine else {
+            return Err(LibraryFault::Over);
+        };
+        if i >= machine.len() {
+            return Err(LibraryFault::NoThread);
+        }
+        Ok(machine.has_turn(i))
+    }
+
+    /// The answer of thread i's call, or none where it makes the call again. Where `buffer` has no room for its bytes
+    /// nothing happens.
+    pub fn answer(
+        &mut self,
+        i: usize,
+        buffer: &mut [u8],
+    ) -> Result<Option<ReplyWords>, LibraryFault>
+        ensures grown { OnOk result
+            (GrowsBy Nothing (Advances i) self.old.machine self.new.machine) }
+        ensures words { IfOk result (λ words. IsSomeAnd self.old.machine
+            (ReadsAnswer i words (length buffer.old) buffer.new)) }
+        ensures refused { OnErr result (self.new ≡ self.old) }
+    {
+        let Some(machine) = &mut self.machine else {
+            return Err(LibraryFault::Over);
+        };
+        if i >= machine.len() {
+            return Err(LibraryFault::NoThread);
+        }
+        if bytes_to_come(machine, i) > buffer.len() {
+            return Err(LibraryFault::NoRoom);
+        }
+        match machine.answer(i) {
+            Ok(Answer::Reply(reply)) => Ok(Some(reply_words(&reply, buffer))),
+            Ok(Answer::Again) => Ok(None),
+            Err(refused) => Err(fault_of(refused)),
+        }
+    }
+
+    /// What thread i asks outside, if it is about to go there or is there, with the path or the bytes of its call.
+    pub fn request(&self, i: usize, buffer: &mut [u8]) -> Result<OutsideWords, LibraryFault>
+        ensures { IfOk result (λ words. IsSomeAnd self.now.machine
+            (ReadsRequest i words buffer.new)) }
+    {
+        let Some(machine) = &self.machine else {
+            return Err(LibraryFault::Over);
+        };
+        if i >= machine.len() {
+            return Err(LibraryFault::NoThread);
+        }
+        let Some(request) = machine.request(i)? else {
+            return Err(LibraryFault::WrongPhase);
+        };
+        if text_of(&request.call).len() > buffer.len() {
+            return Err(LibraryFault::NoRoom);
+        }
+        Ok(outside_words(&request, waits_at(machine.phase(i)), buffer))
+    }
+
+    /// Thread i goes outside, with the door that is given, if one goes along.
+    pub fn begin_outside(&mut self, i: usize) -> Result<Option<u64>, LibraryFault>
+        ensures grown { OnOk result
+            (GrowsBy Nothing (Advances i) self.old.machine self.new.machine) }
+        ensures door { IfOk result (λ door. IsSomeAnd self.old.machine
+            (λ m. door ≡ door_along i m)) }
+        ensures refused { OnErr result (self.new ≡ self.old) }
+    {
+        let Some(machine) = &mut self.machine else {
+            return Err(LibraryFault::Over);
+        };
+        if i >= machine.len() {
+            return Err(LibraryFault::NoThread);
+        }
+        machine.begin_outside(i).map_err(fault_of)
+    }
+
+    /// This came for thread i, which is outside.
+    pub fn record(
+        &mut self,
+        alloc: Global,
+        i: usize,
+        words: &OutcomeWords,
+        bytes: &[u8],
+    ) -> Result<(), LibraryFault>
+        ensures grown { OnOk result (BringsOutcome (outcome_of words.now bytes.now) i
+            self.old.machine self.new.machine) }
+        ensures refused { IfErr result (λ f. (f ≡ fault.LogFull → ⊥) → self.new ≡ self.old) }
+    {
+        let Some(machine) = &mut self.machine else {
+            return Err(LibraryFault::Over);
+        };
+        if i >= machine.len() {
+            return Err(LibraryFault::NoThread);
+        }
+        let Some(errand) = machine.awaited(i) else {
+            return Err(LibraryFault::WrongPhase);
+        };
+        let outcome = outcome_of(alloc, words, bytes)?;
+        let (back, opened) = doors_of(errand.kind, &outcome, words);
+        if !machine.takes(i, &outcome, back.is_some(), opened.is_some()) {
+            return Err(LibraryFault::NoAnswer);
+        }
+        if let Err(refused) = machine.record(i, outcome, back, opened) {
+            return Err(fault_of(refused.cause));
+        }
+        count_one(&mut self.came, i);
+        Ok(())
+    }
+
+    /// Of a replay, what its log has next for thread i, which is about to go outside or is there. It changes nothing.
+    pub fn next(&self, i: usize, buffer: &mut [u8]) -> Result<OutcomeWords, LibraryFault>
+        ensures { IfOk result (λ words. ReadsNext i words buffer.new self.now) }
+    {
+        let Some(machine) = &self.machine else {
+            return Err(LibraryFault::Over);
+        };
+        if i >= machine.len() {
+            return Err(LibraryFault::NoThread);
+        }
+        let errand = match machine.phase(i) {
+            Phase::ToOutside(outing) | Phase::Outside(outing) => outing.errand,
+            _ => return Err(LibraryFault::WrongPhase),
+        };
+        let Some(turn) = machine.outside_turn(i) else {
+            return Err(LibraryFault::WrongPhase);
+        };
+        let Some(given) = self.next_logged(i) else {
+            return Err(LibraryFault::EndOfLog);
+        };
+        if !given.suits(errand.kind, errand.asked) || !given.is_at(turn) {
+            return Err(LibraryFault::Diverged);
+        }
+        outcome_words(&given.outcome, buffer)
+    }
+
+    // The next outcome of thread i in the log, if there is one.
+    fn next_logged(&self, i: usize) -> Option<&Given>
+        ensures { option_copied result ≡ next_logged self.now i }
+    {
+        let count = self.came_for(i);
+        match self.logged.as_slice().get(i) {
+            Some(outcomes) => outcomes.as_slice().get(count as usize),
+            None => None,
+        }
+    }
+
+    // How many outcomes came for thread i.
+    fn came_for(&self, i: usize) -> u32
+        ensures { result ≡ came_for self.now i }
+    {
+        match self.came.as_slice().get(i) {
+            Some(count) => *count,
+            None => 0,
+        }
+    }
+
+    /// Of a replay, how many records of thread i did not come.
+    pub fn unused(&self, i: usize) -> Result<u64, LibraryFault>
+        ensures { IfOk result (λ n. n ≡ unused_of self.now i) }
+    {
+        if i >= self.came.len() {
+            return Err(LibraryFault::NoThread);
+        }
+        let logged = match self.logged.as_slice().get(i) {
+            Some(outcomes) => outcomes.as_slice().len() as u64,
+            None => 0,
+        };
+        Ok(logged.saturating_sub(u64::from(self.came_for(i))))
+    }
+
+    /// Stops the run for this cause: 1 memory, 2 a clock is full, 3 the log ended for this thread, 4 it diverged.
+    pub fn stop(&mut self, cause: u32, i: usize) -> Result<(), LibraryFault>
+        ensures done { OnOk result (HasStopped cause i self.old self.new) }
+        ensures refused { OnErr result (self.new ≡ self.old) }
+    {
+        let count = self.came_for(i);
+        let Some(machine) = &mut self.machine else {
+            return Err(LibraryFault::Over);
+        };
+        let stopped = match cause {
+            1 => machine.stop(Stop::Memory),
+            2 => machine.stop(Stop::ClockFull),
+            3 => machine.stop(Stop::EndOfLog(i)),
+            4 => machine.stop(Stop::Diverged(i, count)),
+            _ => return Err(LibraryFault::NotACall),
+        };
+        stopped.map_err(fault_of)
+    }
+
+    /// The run is over. Its log is kept, with its end where all threads have ended.
+    pub fn finish(&mut self) -> Result<RunEnd, LibraryFault>
+        ensures done { IfOk result (λ words. HasFinished words self.old self.new) }
+        ensures refused { OnErr result (self.new ≡ self.old) }
+    {
+        let Some(machine) = self.machine.take() else {
+            return Err(LibraryFault::Over);
+        };
+        let have_ended = machine.have_ended();
+        let left = machine.finish();
+        let words = run_end(left.stop, have_ended, left.sink.bytes());
+        self.left = Some(left);
+        Ok(words)
+    }
+
+    /// Bytes of the log, which a run that goes on has so far, from this place on, as many as have room in `buffer`: how
+    /// long the log is.
+    pub fn log(&self, from: usize, buffer: &mut [u8]) -> Result<usize, LibraryFault>
+        ensures { IfOk result (λ n. ReadsLogOf from n (length buffer.old) buffer.new self.now) }
+    {
+        let bytes = match (&self.machine, &self.left) {
+            (Some(machine), _) => machine.sink().bytes(),
+            (None, Some(left)) => left.sink.bytes(),
+            // A run that is over has left something.
+            (None, None) => return Err(LibraryFault::Over),
+        };
+        let (_, rest) = bytes.split_at(from.min(bytes.len()));
+        put_front(rest, buffer);
+        Ok(bytes.len())
+    }
+
+    /// What is true of a session.
+    pub fn faithful(&self)
+        ensures { IfSome self.now.machine (IsFaithful ℕ) }
+    {
+        if let Some(machine) = &self.machine {
+            let _ = machine.history();
+        }
+    }
+}
+
+// The outcomes of the first threads, so many, each with its own in order.
+fn outcomes_by(
+    alloc: Global,
+    threads: usize,
+    records: &[Record],
+) -> Result<Vec<Outcomes>, AllocError>
+    ensures { IfOk result (λ outcomes. outcomes.items ≡ outcomes_by threads records.now) }
+{
+    let mut outcomes = Vec::new(alloc);
+    for thread in 0..threads {
+        outcomes.push(outcomes_of(alloc, thread, records)?)?;
+    }
+    Ok(outcomes)
+}
+
+fn count_one(counts: &mut Vec<u32>, i: usize) {
+    if let Some(count) = counts.get_mut(i) {
+        *count = count.saturating_add(1);
+    }
+}
+
+fn phase_code(phase: &Phase) -> u32
+    ensures { result ≡ phase_code phase.now }
+{
+    match phase {
+        Phase::Working => 1,
+        Phase::WantsTable { .. } => 2,
+        Phase::WantsObject { .. } => 3,
+        Phase::Granted { .. } => 4,
+        Phase::ToOutside(_) => 5,
+        Phase::Outside(_) => 6,
+        Phase::Recorded(_) => 7,
+        Phase::Blocked { .. } => 8,
+        Phase::Ended => 9,
+    }
+}
+
+// Whether a call that goes outside, or is there, waits for its peer.
+fn waits_at(phase: &Phase) -> bool
+    ensures { result ≡ waits_in (out_of phase.now) }
+{
+    match phase {
+        Phase::ToOutside(outing) | Phase::Outside(outing) => outing.errand.waits,
+        _ => false,
+    }
+}
+
+// How many bytes the reply of thread i will have.
+fn bytes_to_come(machine: &Machine<MemorySink, u64>, i: usize) -> usize
+    requires { i < length machine.now.whole.threads }
+{
+    match machine.phase(i) {
+        Phase::Granted {
+            ends: TurnEnd::Reply(Reply::Data(bytes)),
+            ..
+        } => bytes.as_slice().len(),
+        Phase::Recorded(outing) => match machine.history().get(outing.row) {
+            Some(row) => match row.outcome() {
+                Some(Outcome::Ok { bytes, .. }) => bytes.as_slice().len(),
+                _ => 0,
+            },
+            None => 0,
+        },
+        _ => 0,
+    }
+}
