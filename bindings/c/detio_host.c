@@ -1,0 +1,198 @@
+/* The host, by the rules of docs/doors.md: files, and TCP at 127.0.0.1, with waits that have a bound. */
+#define _GNU_SOURCE
+#include "detio_host.h"
+
+#include <arpa/inet.h>
+#include <errno.h>
+#include <fcntl.h>
+#include <netinet/in.h>
+#include <poll.h>
+#include <string.h>
+#include <sys/socket.h>
+#include <sys/stat.h>
+#include <sys/time.h>
+#include <time.h>
+#include <unistd.h>
+
+/* The error of this profile for one of the host. */
+static uint32_t error_of(int error) {
+  switch (error) {
+  case ENOENT: return DETIO_ENOENT;
+  case EACCES:
+  case EPERM: return DETIO_EACCES;
+  case EEXIST: return DETIO_EEXIST;
+  case EAGAIN: return DETIO_EAGAIN;
+  case EINTR: return DETIO_EINTR;
+  case EPIPE: return DETIO_EPIPE;
+  case ECONNREFUSED: return DETIO_ECONNREFUSED;
+  case ECONNRESET: return DETIO_ECONNRESET;
+  case EADDRINUSE: return DETIO_EADDRINUSE;
+  case ETIMEDOUT: return DETIO_ETIMEDOUT;
+  case EINVAL: return DETIO_EINVAL;
+  default: return DETIO_EIO;
+  }
+}
+
+static void fails(detio_outcome *came, int error) {
+  memset(came, 0, sizeof *came);
+  came->error = error_of(error);
+}
+
+static struct sockaddr_in loopback(uint16_t port) {
+  struct sockaddr_in address;
+  memset(&address, 0, sizeof address);
+  address.sin_family = AF_INET;
+  address.sin_port = htons(port);
+  address.sin_addr.s_addr = htonl(INADDR_LOOPBACK);
+  return address;
+}
+
+/* An error after something was opened: it is closed again. */
+static int gives_up(int opened) {
+  int error = errno;
+  close(opened);
+  errno = error;
+  return -1;
+}
+
+static int open_file(const detio_call *call, const char *path) {
+  bool writes = call->choice != DETIO_READ_ONLY;
+  bool appends = writes && (call->flags & DETIO_APPEND);
+  bool cuts = writes && (call->flags & DETIO_TRUNCATE);
+  int how = O_CLOEXEC | (!writes ? O_RDONLY : call->choice == DETIO_WRITE_ONLY ? O_WRONLY : O_RDWR);
+  if (appends) how |= O_APPEND;
+  if (writes && (call->flags & DETIO_CREATE)) how |= O_CREAT;
+  if (cuts && !appends) how |= O_TRUNC;
+  int opened = open(path, how, 0666);
+  if (opened < 0 && errno == ENOENT && !writes && (call->flags & DETIO_CREATE)) {
+    /* It is made by itself, and opened again. */
+    int made = open(path, O_WRONLY | O_CREAT | O_CLOEXEC, 0666);
+    if (made < 0) return -1;
+    close(made);
+    opened = open(path, how, 0666);
+  }
+  if (opened >= 0 && cuts && appends && ftruncate(opened, 0) < 0) return gives_up(opened);
+  return opened;
+}
+
+/* A stream blocks, and its reads and writes wait no longer than this. */
+static int bounded(int stream, unsigned wait) {
+  struct timeval longest = {.tv_sec = wait / 1000, .tv_usec = (wait % 1000) * 1000};
+  int how = fcntl(stream, F_GETFL);
+  if (how < 0 || fcntl(stream, F_SETFL, how & ~O_NONBLOCK) < 0) return gives_up(stream);
+  if (wait && (setsockopt(stream, SOL_SOCKET, SO_RCVTIMEO, &longest, sizeof longest) < 0 ||
+               setsockopt(stream, SOL_SOCKET, SO_SNDTIMEO, &longest, sizeof longest) < 0))
+    return gives_up(stream);
+  return stream;
+}
+
+static int listen_at(uint64_t port, uint64_t *found) {
+  if (port > 65535) return errno = EINVAL, -1;
+  struct sockaddr_in address = loopback((uint16_t)port);
+  socklen_t length = sizeof address;
+  int yes = 1;
+  int listener = socket(AF_INET, SOCK_STREAM | SOCK_CLOEXEC | SOCK_NONBLOCK, 0);
+  if (listener < 0) return -1;
+  if (setsockopt(listener, SOL_SOCKET, SO_REUSEADDR, &yes, sizeof yes) < 0 ||
+      bind(listener, (struct sockaddr *)&address, sizeof address) < 0 || listen(listener, 128) < 0 ||
+      getsockname(listener, (struct sockaddr *)&address, &length) < 0)
+    return gives_up(listener);
+  *found = ntohs(address.sin_port);
+  return listener;
+}
+
+static int connect_to(uint64_t port, unsigned wait) {
+  if (port > 65535) return errno = EINVAL, -1;
+  struct sockaddr_in address = loopback((uint16_t)port);
+  int stream = socket(AF_INET, SOCK_STREAM | SOCK_CLOEXEC, 0);
+  if (stream < 0) return -1;
+  if (connect(stream, (struct sockaddr *)&address, sizeof address) < 0) return gives_up(stream);
+  return bounded(stream, wait);
+}
+
+/* A connection of a listener that never waits by itself. */
+static int accept_within(int listener, unsigned wait_to_accept, unsigned wait) {
+  struct pollfd ready = {.fd = listener, .events = POLLIN};
+  if (wait_to_accept) (void)poll(&ready, 1, (int)wait_to_accept);
+  int stream = accept4(listener, NULL, NULL, SOCK_CLOEXEC);
+  return stream < 0 ? stream : bounded(stream, wait);
+}
+
+static bool is_stream(int door) {
+  struct stat status;
+  return fstat(door, &status) == 0 && S_ISSOCK(status.st_mode);
+}
+
+static ssize_t read_once(int door, bool waits, uint8_t *data, size_t count) {
+  if (!is_stream(door)) return read(door, data, count);
+  return recv(door, data, count, waits ? 0 : MSG_DONTWAIT);
+}
+
+static ssize_t write_once(int door, bool waits, const uint8_t *data, size_t count) {
+  if (!is_stream(door)) return write(door, data, count);
+  return send(door, data, count, MSG_NOSIGNAL | (waits ? 0 : MSG_DONTWAIT));
+}
+
+static int64_t seek(int door, const detio_call *call) {
+  static const int from[] = {SEEK_SET, SEEK_CUR, SEEK_END};
+  if (call->choice > DETIO_END || (call->choice == DETIO_SET && call->number < 0)) return errno = EINVAL, -1;
+  return lseek(door, call->number, from[call->choice]);
+}
+
+static int shut(int door, const detio_call *call) {
+  static const int what[] = {SHUT_RD, SHUT_WR, SHUT_RDWR};
+  if (call->choice > DETIO_SHUT_BOTH) return errno = EINVAL, -1;
+  return shutdown(door, what[call->choice]);
+}
+
+/* What opens a door. */
+static void reach_opening(const detio_outside *asked, int door, unsigned wait, uint8_t *data, size_t room,
+                          detio_outcome *came) {
+  int opened = -1;
+  uint64_t value = 0;
+  errno = EINVAL;
+  if (asked->kind == DETIO_ASKS_OPEN) {
+    if (asked->length < room && !memchr(data, 0, asked->length)) {
+      data[asked->length] = 0;
+      opened = open_file(&asked->call, (const char *)data);
+    }
+  } else if (asked->kind == DETIO_ASKS_LISTEN) {
+    opened = listen_at(asked->asked, &value);
+  } else if (asked->kind == DETIO_ASKS_CONNECT) {
+    opened = connect_to(asked->asked, wait);
+  } else {
+    opened = accept_within(door, asked->waits ? wait : 0, wait);
+  }
+  if (opened < 0) {
+    fails(came, errno);
+  } else {
+    came->value = value;
+    came->opened = (uint64_t)opened;
+  }
+}
+
+void detio_host_reach(const detio_outside *asked, bool goes, uint64_t door, unsigned wait, uint8_t *data, size_t room,
+                      detio_outcome *came) {
+  bool waits = asked->waits && wait;
+  int at = goes ? (int)door : -1;
+  int64_t done = -1;
+  memset(came, 0, sizeof *came);
+  errno = EINVAL;
+  switch (asked->kind) {
+  case DETIO_ASKS_READ: done = asked->asked <= room ? read_once(at, waits, data, (size_t)asked->asked) : -1; break;
+  case DETIO_ASKS_WRITE: done = write_once(at, waits, data, asked->length); break;
+  case DETIO_ASKS_SEEK: done = seek(at, &asked->call); break;
+  case DETIO_ASKS_SHUTDOWN: done = shut(at, &asked->call); break;
+  case DETIO_ASKS_CLOSE:
+    close(at);
+    done = 0;
+    break;
+  default: reach_opening(asked, at, wait, data, room, came); return;
+  }
+  if (done < 0) {
+    fails(came, errno);
+    return;
+  }
+  came->value = (uint64_t)done;
+  if (asked->kind == DETIO_ASKS_READ) came->length = (size_t)done;
+}
