@@ -17,11 +17,20 @@ GROUP = re.compile(
     r"^(?P<index>\d+)\. \*\*.*?(?=^\d+\. \*\*|^For the commands|^\*\*How|\Z)", re.S | re.M
 )
 OF_CRATE = re.compile(r"   - \[`(?P<crate>\w+)`\].*?(?=\n   - |\Z)", re.S)
-FILE = re.compile(r"`(?P<name>[A-Z]\w*)`(?P<gap>\s+)(?P<lines>\d+)")
+FILE = re.compile(r"`(?P<name>[A-Z]\w*)`(?P<gap>\s+)(?P<lines>\d+)(?P<needed>\s+\([^)]*\))?")
+# With which files to begin, and their count as a word.
+BEGIN = re.compile(r"Begin with these \w+ files, [\d,]+ lines:.*?(?=\n\n|\Z)", re.S)
+LINKED = re.compile(r"\]\(\.\./(crates/[^)]*)\)")
+COUNTS = ["no", "one", "two", "three", "four", "five", "six", "seven", "eight", "nine", "ten"]
 
 
 def number(count: int) -> str:
     return f"{count:,}"
+
+
+def text_of(path: str) -> str:
+    with open(path, encoding="utf-8") as file:
+        return file.read()
 
 
 def lines_of(path: str) -> int:
@@ -58,7 +67,11 @@ class List:
         self.sums[group] = (files + 1, lines + length)
         if int(file["lines"]) != length:
             self.faults.append(f"{path}: {length} lines, and not {file['lines']}")
-        return f"`{file['name']}`{file['gap']}{length}"
+        needed = file["needed"] or ""
+        for name in re.findall(r"`([^`]*)`", needed):
+            if name not in re.findall(r"[^\s(){}.,:;]+", text_of(path)):
+                self.faults.append(f"{path}: there is no {name}")
+        return f"`{file['name']}`{file['gap']}{length}{needed}"
 
     def crate(self, group: int, match: re.Match[str]) -> str:
         """The files of a crate in the list, with their right lengths."""
@@ -68,8 +81,19 @@ class List:
         """A group of crates in the list, with its right numbers."""
         index = int(match["index"])
         body = OF_CRATE.sub(lambda it: self.crate(index, it), match[0])
-        files, lines = self.sums[index]
+        files, lines = self.sums.get(index, (0, 0))
         return self.said(body, r"\*\*: [\d,]+ files, [\d,]+ lines\.", f"**: {files} files, {number(lines)} lines.")
+
+    def beginning(self, match: re.Match[str]) -> str:
+        """The files to begin with, with their right numbers."""
+        paths = LINKED.findall(match[0])
+        for path in paths:
+            if path not in self.found:
+                self.faults.append(f"{path}: one begins with it, and it is not listed")
+        lines = sum(lines_of(it) for it in paths if os.path.exists(it))
+        count = COUNTS[len(paths)] if len(paths) < len(COUNTS) else str(len(paths))
+        wanted = f"Begin with these {count} files, {number(lines)} lines:"
+        return self.said(match[0], r"Begin with these \w+ files, [\d,]+ lines:", wanted)
 
     def said(self, text: str, pattern: str, wanted: str) -> str:
         """The text with what is wanted in the place of what has this pattern."""
@@ -89,13 +113,14 @@ def corrected(text: str) -> tuple[str, list[str]]:
     text = GROUP.sub(page.group, text)
     headline = [page.sums[index] for index in page.sums if index < COMMANDS]
     files, lines = sum(it[0] for it in headline), sum(it[1] for it in headline)
-    more, more_lines = page.sums[COMMANDS]
+    more, more_lines = page.sums.get(COMMANDS, (0, 0))
     counted = r"[\d,]+ files, [\d,]+ lines"
     text = page.said(text, f"in this order: {counted}", f"in this order: {files} files, {number(lines)} lines")
     besides = f"read these besides: {more} files, {number(more_lines)} lines"
     text = page.said(text, f"read these besides: {counted}", besides)
     together = f"Together that is {files + more} files and {number(lines + more_lines)} lines"
     text = page.said(text, r"Together that is\s+[\d,]+ files and\s+[\d,]+\s+lines", together)
+    text = BEGIN.sub(page.beginning, text)
     rest = other_files(page)
     text = page.said(text, f"The other {counted}", f"The other {len(rest)} files, {number(sum(rest))} lines")
     return text, page.faults
@@ -144,5 +169,7 @@ def with_crates(text: str) -> str:
 
 def corrected_map(text: str) -> tuple[str, list[str]]:
     """The map with the list of crates, and what is wrong with it as it stands."""
+    if text.count(CRATES) != 2:
+        return text, [f"{MAP}: the lines round the list of crates are not there: {CRATES}"]
     wanted = with_crates(text)
     return wanted, [] if wanted == text else [f"{MAP}: the list of crates is another: tools/reading-list --write"]

@@ -80,6 +80,21 @@ class Answer:
         with open(path, "wb") as file:
             file.write(change(text))
 
+    def change_page(self, pattern: str, new: Callable[[re.Match[str]], str]) -> None:
+        """Writes something else at the last place where the page of `detio draw` has this pattern, in which . is also
+        the end of a line. The page stays where it has none, or none was left."""
+        page = self.option("--out")
+        if self.status or page is None or not os.path.exists(page):
+            return
+
+        def changed(text: bytes) -> bytes:
+            drawn = text.decode("ascii")
+            found = list(re.finditer(pattern, drawn, re.S))
+            if not found:
+                return text
+            return f"{drawn[: found[-1].start()]}{new(found[-1])}{drawn[found[-1].end() :]}".encode("ascii")
+        self.change_file(page, changed)
+
     def change_log(self, option: str, change: "Callable[[model.Log], None]") -> None:
         """Changes the log at the path of an option, if the right program left one there that has no fault."""
         path = self.option(option)
