@@ -1,5 +1,5 @@
-/* Two threads that deposit into one file: each reads the balance, works, and writes what it read and one more. Where both
- * read before either writes, a deposit is lost.
+/* Two threads that deposit into one file: each reads the balance, works, and writes what it read and one more. Where
+ * both read before either writes, a deposit is lost.
  *
  *     race record LOG     runs it, and keeps the log
  *     race replay LOG     the same run again

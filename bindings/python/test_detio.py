@@ -1,5 +1,5 @@
-"""Tests of detio.py: python3 test_detio.py, with DETIO_LIBRARY or libdetio.so beside it. With DETIO_PROGRAM, the path of
-the program `detio`, what it makes of the logs is compared too."""
+"""Tests of detio.py: python3 test_detio.py, with DETIO_LIBRARY or libdetio.so beside it. With DETIO_PROGRAM, the path
+of the program `detio`, what it makes of the logs is compared too."""
 
 import os
 import signal
@@ -397,7 +397,8 @@ class Program(unittest.TestCase):
         for rows in self.rows:
             rows.clear()
         result = self.run_of_both.replay(log)
-        last = {'ended': 'end', 'stopped: the log ended': f'stop end of log {result.thread}'}.get(result.how, result.how)
+        ends = {'ended': 'end', 'stopped: the log ended': f'stop end of log {result.thread}'}
+        last = ends.get(result.how, result.how)
         return last, [list(it) for it in self.rows]
 
     def test_the_program_shows_a_log_of_the_library(self):
