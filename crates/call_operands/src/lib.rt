@@ -1,8 +1,10 @@
 //! The operands of calls, each with its name, for whoever shows what a call was asked.
 //!
 //! [`operands`] gives the operands of a call in the order in which the line of a script has them: a
-//! path, say, then how it is opened, then the flags. It copies nothing and takes no memory. By its
-//! contract the operands are those of the table in `specs/Operands`, which stands there once.
+//! path, say, then how it is opened, then the flags. Descriptors are told from other numbers. It
+//! takes the call of a line too, whose numbers and bytes may be registers. It copies nothing and
+//! takes no memory. By its contract the operands are those of the table in `specs/Operands`, which
+//! stands there once.
 //!
 //! ```rust
 //! use call_operands::{OperandValue, operands};

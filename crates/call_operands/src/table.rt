@@ -2,16 +2,19 @@ ghost use Rattle.std.specs.Prelude.{◌≡◌, ◌∷◌, []};
 ghost use Rattle.call_operands.specs.Operands as said;
 ghost use Rattle.call_operands.specs.Operands.{bytes_said, descriptor_said, flags_said};
 ghost use Rattle.call_operands.specs.Operands.{operands_of};
-ghost use Rattle.call_operands.specs.Seen.{named_seen, operands_seen};
+ghost use Rattle.call_operands.specs.Seen.{AreInOrder, named_seen, operands_seen};
 
 use crate::value::{Operand, OperandValue, Operands};
 use crate::words::{access_word, how_word, status_flags, whence_word};
-use posix_terms::{Call, OpenFlags};
+use posix_terms::{Call, OpenFlags, SharedBytes};
 
 /// The operands of a call.
 #[tactic(auto, unfolding(crate::specs::Operands::operands_of))]
-pub fn operands(call: &Call) -> Operands<'_>
-    ensures { operands_seen result ≡ operands_of call.now }
+pub fn operands<'a, Number: Copy, Text>(
+    call: &'a Call<Number, Text>,
+) -> Operands<'a, Number, &'a Text>
+    ensures listed { operands_seen result ≡ operands_of call.now }
+    ensures in_order { AreInOrder result }
 {
     match call {
         Call::Open {
@@ -39,17 +42,21 @@ pub fn operands(call: &Call) -> Operands<'_>
             one(path_named("path", path.as_slice()))
         }
         Call::TcpListen { port } | Call::TcpConnect { port } => one(number("port", *port)),
-        Call::Pipe | Call::Socketpair => none(),
+        Call::Pipe | Call::Socketpair => Operands {
+            first: None,
+            second: None,
+            third: None,
+        },
         Call::Close { descriptor }
         | Call::Fstat { descriptor }
         | Call::Dup { descriptor }
         | Call::Getfl { descriptor }
-        | Call::TcpAccept { descriptor } => one(number("descriptor", *descriptor)),
+        | Call::TcpAccept { descriptor } => one(descriptor_named(*descriptor)),
         Call::Read { descriptor, count } => at(*descriptor, number("count", *count)),
-        Call::Write { descriptor, bytes } => at(*descriptor, bytes_named(bytes.as_slice())),
+        Call::Write { descriptor, bytes } => at(*descriptor, bytes_named(bytes)),
         Call::Ftruncate { descriptor, size } => at(*descriptor, number("size", *size)),
         Call::DupFrom { descriptor, least } => at(*descriptor, number("least", *least)),
-        Call::Dup2 { descriptor, target } => at(*descriptor, number("target", *target)),
+        Call::Dup2 { descriptor, target } => at(*descriptor, descriptor_as("target", *target)),
         Call::Shutdown { descriptor, how } => at(*descriptor, word("how", how_word(*how))),
         Call::Setfl {
             descriptor,
@@ -63,7 +70,7 @@ pub fn operands(call: &Call) -> Operands<'_>
         } => {
             let count = number("count", *count);
             three(
-                number("descriptor", *descriptor),
+                descriptor_named(*descriptor),
                 count,
                 number("position", *position),
             )
@@ -73,9 +80,9 @@ pub fn operands(call: &Call) -> Operands<'_>
             bytes,
             position,
         } => {
-            let bytes = bytes_named(bytes.as_slice());
+            let bytes = bytes_named(bytes);
             three(
-                number("descriptor", *descriptor),
+                descriptor_named(*descriptor),
                 bytes,
                 number("position", *position),
             )
@@ -87,23 +94,16 @@ pub fn operands(call: &Call) -> Operands<'_>
         } => {
             let offset = number("offset", *offset);
             let whence = word("whence", whence_word(*whence));
-            three(number("descriptor", *descriptor), offset, whence)
+            three(descriptor_named(*descriptor), offset, whence)
         }
     }
 }
 
-fn none<'a>() -> Operands<'a>
-    ensures { operands_seen result ≡ [] }
-{
-    Operands {
-        first: None,
-        second: None,
-        third: None,
-    }
-}
-
-fn one(first: Operand<'_>) -> Operands<'_>
-    ensures { operands_seen result ≡ named_seen first.entry ∷ [] }
+fn one<'a, Number: Copy, Text>(
+    first: Operand<'a, Number, &'a Text>,
+) -> Operands<'a, Number, &'a Text>
+    ensures listed { operands_seen result ≡ named_seen first.entry ∷ [] }
+    ensures in_order { AreInOrder result }
 {
     Operands {
         first: Some(first),
@@ -113,14 +113,23 @@ fn one(first: Operand<'_>) -> Operands<'_>
 }
 
 // A descriptor, and this operand after it.
-fn at(descriptor: i64, second: Operand<'_>) -> Operands<'_>
-    ensures { operands_seen result ≡ descriptor_said descriptor ∷ named_seen second.entry ∷ [] }
+fn at<'a, Number: Copy, Text>(
+    descriptor: Number,
+    second: Operand<'a, Number, &'a Text>,
+) -> Operands<'a, Number, &'a Text>
+    ensures listed { operands_seen result
+        ≡ descriptor_said descriptor ∷ named_seen second.entry ∷ [] }
+    ensures in_order { AreInOrder result }
 {
-    two(number("descriptor", descriptor), second)
+    two(descriptor_named(descriptor), second)
 }
 
-fn two<'a>(first: Operand<'a>, second: Operand<'a>) -> Operands<'a>
-    ensures { operands_seen result ≡ named_seen first.entry ∷ named_seen second.entry ∷ [] }
+fn two<'a, Number: Copy, Text>(
+    first: Operand<'a, Number, &'a Text>,
+    second: Operand<'a, Number, &'a Text>,
+) -> Operands<'a, Number, &'a Text>
+    ensures listed { operands_seen result ≡ named_seen first.entry ∷ named_seen second.entry ∷ [] }
+    ensures in_order { AreInOrder result }
 {
     Operands {
         first: Some(first),
@@ -129,9 +138,14 @@ fn two<'a>(first: Operand<'a>, second: Operand<'a>) -> Operands<'a>
     }
 }
 
-fn three<'a>(first: Operand<'a>, second: Operand<'a>, third: Operand<'a>) -> Operands<'a>
-    ensures { operands_seen result
+fn three<'a, Number: Copy, Text>(
+    first: Operand<'a, Number, &'a Text>,
+    second: Operand<'a, Number, &'a Text>,
+    third: Operand<'a, Number, &'a Text>,
+) -> Operands<'a, Number, &'a Text>
+    ensures listed { operands_seen result
         ≡ named_seen first.entry ∷ named_seen second.entry ∷ named_seen third.entry ∷ [] }
+    ensures in_order { AreInOrder result }
 {
     Operands {
         first: Some(first),
@@ -140,7 +154,29 @@ fn three<'a>(first: Operand<'a>, second: Operand<'a>, third: Operand<'a>) -> Ope
     }
 }
 
-fn number<'a>(name: &'static str, number: i64) -> Operand<'a>
+// A descriptor under the name that most have.
+fn descriptor_named<'a, Number: Copy, Text>(number: Number) -> Operand<'a, Number, &'a Text>
+    ensures { named_seen result ≡ descriptor_said number }
+{
+    descriptor_as("descriptor", number)
+}
+
+fn descriptor_as<'a, Number: Copy, Text>(
+    name: &'static str,
+    number: Number,
+) -> Operand<'a, Number, &'a Text>
+    ensures { named_seen result ≡ (name.entry.now, said.Descriptor number) }
+{
+    Operand {
+        name,
+        value: OperandValue::Descriptor(number),
+    }
+}
+
+fn number<'a, Number: Copy, Text>(
+    name: &'static str,
+    number: Number,
+) -> Operand<'a, Number, &'a Text>
     ensures { named_seen result ≡ (name.entry.now, said.Number number) }
 {
     Operand {
@@ -149,7 +185,10 @@ fn number<'a>(name: &'static str, number: i64) -> Operand<'a>
     }
 }
 
-fn path_named<'a>(name: &'static str, path: &'a [u8]) -> Operand<'a>
+fn path_named<'a, Number: Copy, Text>(
+    name: &'static str,
+    path: &'a [u8],
+) -> Operand<'a, Number, &'a Text>
     ensures { named_seen result ≡ (name.entry.now, said.Path path.now) }
 {
     Operand {
@@ -158,7 +197,10 @@ fn path_named<'a>(name: &'static str, path: &'a [u8]) -> Operand<'a>
     }
 }
 
-fn word<'a>(name: &'static str, word: &'static str) -> Operand<'a>
+fn word<'a, Number: Copy, Text>(
+    name: &'static str,
+    word: &'static str,
+) -> Operand<'a, Number, &'a Text>
     ensures { named_seen result ≡ (name.entry.now, said.Word word.entry.now) }
 {
     Operand {
@@ -167,7 +209,7 @@ fn word<'a>(name: &'static str, word: &'static str) -> Operand<'a>
     }
 }
 
-fn bytes_named(bytes: &[u8]) -> Operand<'_>
+fn bytes_named<'a, Number: Copy, Text>(bytes: &'a Text) -> Operand<'a, Number, &'a Text>
     ensures { named_seen result ≡ bytes_said bytes.now }
 {
     Operand {
@@ -176,7 +218,7 @@ fn bytes_named(bytes: &[u8]) -> Operand<'_>
     }
 }
 
-fn flags_named<'a>(flags: OpenFlags) -> Operand<'a>
+fn flags_named<'a, Number: Copy, Text>(flags: OpenFlags) -> Operand<'a, Number, &'a Text>
     ensures { named_seen result ≡ flags_said flags }
 {
     Operand {

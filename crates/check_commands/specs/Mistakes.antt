@@ -11,11 +11,11 @@ use Rattle.script_checks.specs.declared.expected.Found.TheVariants as found
 use Rattle.script_checks.specs.declared.expected.Mistake.{Mistake}
 use Rattle.script_checks.specs.declared.operand.FlagSet.{FlagSet}
 use Rattle.script_checks.specs.declared.operand.FlagSet.TheVariants as flags
-use Rattle.script_checks.specs.declared.operand.Operand.{Operand}
-use Rattle.script_checks.specs.declared.operand.Operand.TheVariants as operand
+use Rattle.script_checks.specs.declared.operand.OperandShape.{OperandShape}
+use Rattle.script_checks.specs.declared.operand.OperandShape.TheVariants as operand
 
 -- what an operand of each type may be, in words
-abbrev pub operand_words : Operand → List ℕ
+abbrev pub operand_words : OperandShape → List ℕ
 operand_words operand.Number = codes "a number or a register r0 to r15"
 operand_words operand.Amount = codes "a number from 0 to 1000000"
 operand_words operand.Register = codes "a register r0 to r15"

@@ -5,7 +5,7 @@ ghost use Rattle.check_commands.specs.Mistakes.{byte_name, expected_text, flag_w
 ghost use Rattle.check_commands.specs.Mistakes.{mistake_text, operand_words, quoted};
 
 use command_texts::{push_number, push_word};
-use script_checks::{Expected, FlagSet, Found, Mistake, Operand};
+use script_checks::{Expected, FlagSet, Found, Mistake, OperandShape};
 use std::alloc::AllocError;
 
 /// Adds what was expected and what stands there, as the end of a line.
@@ -54,23 +54,23 @@ fn push_other_label(text: &mut Vec<u8>, line: usize) -> Result<(), AllocError>
     push_number(text, line as u64)
 }
 
-fn operand_words(operand: Operand) -> &'static str
+fn operand_words(operand: OperandShape) -> &'static str
     ensures { result.now ≡ operand_words operand }
 {
     match operand {
-        Operand::Number => "a number or a register r0 to r15",
-        Operand::Amount => "a number from 0 to 1000000",
-        Operand::Register => "a register r0 to r15",
-        Operand::ByteRegister => "a byte register b0 to b3",
-        Operand::Bytes => {
+        OperandShape::Number => "a number or a register r0 to r15",
+        OperandShape::Amount => "a number from 0 to 1000000",
+        OperandShape::Register => "a register r0 to r15",
+        OperandShape::ByteRegister => "a byte register b0 to b3",
+        OperandShape::Bytes => {
             "x and an even number of hexadecimal digits, or a byte register b0 to b3,"
         }
-        Operand::Path => "a path",
-        Operand::Access => "r, w or rw",
-        Operand::Whence => "set, cur or end",
-        Operand::HowToShut => "read, write or both",
-        Operand::NewLabel => "a label of 1 to 14 lower-case letters and digits",
-        Operand::KnownLabel => "a label of this script",
+        OperandShape::Path => "a path",
+        OperandShape::Access => "r, w or rw",
+        OperandShape::Whence => "set, cur or end",
+        OperandShape::HowToShut => "read, write or both",
+        OperandShape::NewLabel => "a label of 1 to 14 lower-case letters and digits",
+        OperandShape::KnownLabel => "a label of this script",
     }
 }
 

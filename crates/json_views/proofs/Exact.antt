@@ -94,14 +94,15 @@ flags_exact flags =
     (flag_exact flags.append (codes "append") last
     (last_exact flags.nonblock (codes "nonblock")))))
 
-said_exact : (s : Said) → has_float (said_value s) ≡ false
+said_exact : (s : Said ℤ (List ℕ)) → has_float (said_value s) ≡ false
+said_exact (said.Descriptor n) = number_exact n
 said_exact (said.Number n) = number_exact n
 said_exact (said.Bytes bytes) = refl
 said_exact (said.Path path) = text_exact path
 said_exact (said.Word word) = refl
 said_exact (said.Flags flags) = flags_exact flags
 
-members_exact : (operands : List NamedSaid) → AreExact (map member_of operands)
+members_exact : (operands : List (NamedSaid ℤ (List ℕ))) → AreExact (map member_of operands)
 members_exact [] = tt
 members_exact (operand ∷ more) = (said_exact operand.1, members_exact more)
 

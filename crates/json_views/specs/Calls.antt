@@ -39,7 +39,8 @@ abbrev pub flags_value : OpenFlags → Data
 flags_value flags = array (items_of (flag_words flags))
 
 -- what an operand says
-abbrev pub said_value : Said → Data
+abbrev pub said_value : Said ℤ (List ℕ) → Data
+said_value (said.Descriptor n) = number_value n
 said_value (said.Number n) = number_value n
 said_value (said.Bytes bytes) = hex_value bytes
 said_value (said.Path path) = text_value path
@@ -49,7 +50,7 @@ said_value (said.Flags flags) = flags_value flags
 -- ## Calls and replies
 
 -- an operand, under its name
-abbrev pub member_of : NamedSaid → Member
+abbrev pub member_of : NamedSaid ℤ (List ℕ) → Member
 member_of operand = (operand.0, said_value operand.1)
 
 -- the operands of a call

@@ -46,8 +46,8 @@ fn said_value(alloc: Global, value: OperandValue<'_>) -> Result<Value, AllocErro
     ensures { IfOk result (λ json. view json ≡ said_value (value_seen value.entry)) }
 {
     match value {
-        OperandValue::Number(number) => Ok(Value::from(number)),
-        OperandValue::Bytes(bytes) => hex_value(alloc, bytes),
+        OperandValue::Descriptor(number) | OperandValue::Number(number) => Ok(Value::from(number)),
+        OperandValue::Bytes(bytes) => hex_value(alloc, bytes.as_slice()),
         OperandValue::Path(path) => text_value(alloc, path),
         OperandValue::Word(word) => Value::try_from_str(alloc, word),
         OperandValue::Flags(flags) => flags_value(alloc, flags),

@@ -70,7 +70,8 @@ flags_operands flags =
     +++ flag_operand flags.nonblock (codes " nonblock")
 
 -- what an operand says
-abbrev pub said_text : Said → List ℕ
+abbrev pub said_text : Said ℤ (List ℕ) → List ℕ
+said_text (said.Descriptor number) = number_operand number
 said_text (said.Number number) = number_operand number
 said_text (said.Bytes bytes) = bytes_operand bytes
 said_text (said.Path path) = path_operand path
@@ -78,7 +79,7 @@ said_text (said.Word word) = word_operand word
 said_text (said.Flags flags) = flags_operands flags
 
 -- an operand, whose name is not shown
-abbrev pub operand_text : NamedSaid → List ℕ
+abbrev pub operand_text : NamedSaid ℤ (List ℕ) → List ℕ
 operand_text operand = said_text operand.1
 
 -- ---- calls

@@ -50,8 +50,10 @@ fn push_value(text: &mut Vec<u8>, value: OperandValue<'_>) -> Result<(), AllocEr
         text.new.items ≡ text.old.items ++ said_text (value_seen value.entry)) }
 {
     match value {
-        OperandValue::Number(number) => push_number_operand(text, number),
-        OperandValue::Bytes(bytes) => push_bytes_operand(text, bytes),
+        OperandValue::Descriptor(number) | OperandValue::Number(number) => {
+            push_number_operand(text, number)
+        }
+        OperandValue::Bytes(bytes) => push_bytes_operand(text, bytes.as_slice()),
         OperandValue::Path(path) => push_path_operand(text, path),
         OperandValue::Word(word) => push_word_operand(text, word),
         OperandValue::Flags(flags) => push_flags_operands(text, flags),

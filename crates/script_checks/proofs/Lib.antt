@@ -1,3 +1,4 @@
 pub mod Marking
+pub mod Naming
 pub mod Numbering
 pub mod Telling

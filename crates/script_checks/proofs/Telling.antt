@@ -1,7 +1,8 @@
 -- Descriptors that more than one script names: one more is told, and all that lines name are.
 use Rattle.std.proofs.Common.{◌≡◌, ℕ, suc, ◌+◌, ◌<◌, ◌≤◌, Bool, true, false, ◌||◌, cond, ℤ, List}
-use Rattle.std.proofs.Common.{[], ◌∷◌, ◌++◌, length, map, take, get_or, slice_get, Some, refl, ap}
+use Rattle.std.proofs.Common.{[], ◌∷◌, ◌++◌, length, map, take, get_or, slice_get, Option, Some, refl, ap}
 use Rattle.std.proofs.Common.{sym, ◌∙◌, ◌⊎◌, inl, inr, arith}
+use Rattle.std.specs.Borrow.{Bor}
 use Rattle.std.specs.List.{IsDistinct, list_any}
 use Rattle.std.specs.Ordering.{int_eq}
 use Rattle.std.proofs.lemmas.Bool.{cases_lt, or_cases}
@@ -11,10 +12,16 @@ use Rattle.std.proofs.lemmas.List.Elements.{All-nil, All-push}
 use Rattle.std.proofs.lemmas.List.Folds.{list_any-append, list_any_more}
 use Rattle.std.proofs.lemmas.Map.Keys.{IsDistinct-push}
 use Rattle.std.proofs.lemmas.Option.{get_or_from_slice_get, slice_get_within}
+use Rattle.call_operands.specs.Seen.{operand_seen}
+use Rattle.call_operands.specs.declared.value.Operand.{Operand}
+use Rattle.thread_scripts.specs.declared.line.Data.{Data}
 use Rattle.thread_scripts.specs.declared.line.Line.{Line}
+use Rattle.thread_scripts.specs.declared.line.Number.{Number}
 use Rattle.script_checks.specs.Sharing.{Adds, AddsOf, AreAllShared, AreSharedOnce, IsSharedIn}
-use Rattle.script_checks.specs.Sharing.{IsToldIfShared, has_number, names, naming_from}
+use Rattle.script_checks.specs.Sharing.{IsToldIfShared, fixed_descriptors, fixed_operand, fixed_seen}
+use Rattle.script_checks.specs.Sharing.{has_number, is_number, names, naming_from}
 use Rattle.script_checks.specs.declared.descriptors.SharedDescriptor.{SharedDescriptor}
+use Rattle.script_checks.proofs.Naming.{or_false, three}
 
 numbers_any : (n : ℤ) (shared : List SharedDescriptor)
     → list_any (int_eq n) (map (λ s. s.number) shared) ≡ has_number n shared
@@ -51,6 +58,31 @@ added scripts shared s were is new = record {
   kept = λ m there. still_there m shared s there;
   told = λ m same two. now_there m shared s same;
 }
+
+-- what the operands of a line name, one after another, is what the line names
+pub added_operands : (scripts : List (List Line)) (l : Line) (a b c : Option (Operand Number (Bor Data)))
+    (s0 s1 s2 s3 : List SharedDescriptor)
+    → fixed_descriptors l ≡ map fixed_operand (operand_seen a ++ (operand_seen b ++ operand_seen c))
+    → Adds scripts (fixed_seen a) s0 s1 → Adds scripts (fixed_seen b) s1 s2 → Adds scripts (fixed_seen c) s2 s3
+    → AddsOf scripts (l ∷ []) s0 s3
+added_operands scripts l a b c s0 s1 s2 s3 is first second third = record {
+  once = third.once;
+  kept = λ m there. third.kept m (second.kept m (first.kept m there));
+  told = λ m named. by_first m
+      (or_cases (is_number m (fixed_seen a)) (is_number m (fixed_seen b) || is_number m (fixed_seen c))
+      (sym (ap (list_any (is_number m)) is ∙ three m a b c) ∙ sym (or_false (names m l)) ∙ named));
+} where
+  by_second : (m : ℤ) → (is_number m (fixed_seen b) ≡ true) ⊎ (is_number m (fixed_seen c) ≡ true)
+      → IsToldIfShared scripts s3 m
+  by_second m (inl now) two = third.kept m (second.told m now two)
+  by_second m (inr later) two = third.told m later two
+
+  by_first : (m : ℤ)
+      → (is_number m (fixed_seen a) ≡ true) ⊎ ((is_number m (fixed_seen b) || is_number m (fixed_seen c)) ≡ true)
+      → IsToldIfShared scripts s3 m
+  by_first m (inl now) two = third.kept m (second.kept m (first.told m now two))
+  by_first m (inr later) two =
+      by_second m (or_cases (is_number m (fixed_seen b)) (is_number m (fixed_seen c)) later) two
 
 -- what one more line names is told too
 pub added_lines : (scripts : List (List Line)) (lines : List Line) (i : ℕ) (l : Line)

@@ -1,45 +1,35 @@
 -- Believed: a contract of a command stands on it.
 -- Descriptors that scripts name by their numbers, and which of them more than one names.
-use Rattle.std.specs.Prelude.{◌≡◌, ℕ, ◌+◌, ◌≤◌, All, Bool, true, false, ◌||◌, ℤ, List, [], ◌∷◌}
+use Rattle.std.specs.Prelude.{◌≡◌, ℕ, ◌+◌, ◌≤◌, All, Bool, true, false, ℤ, List, [], ◌∷◌}
 use Rattle.std.specs.Prelude.{length, map, Option, Some, None, if◌then◌else◌}
+use Rattle.std.specs.Borrow.{Bor}
 use Rattle.std.specs.List.{IsDistinct, list_any}
 use Rattle.std.specs.Ordering.{int_eq}
-use Rattle.posix_terms.specs.declared.call.Call.TheVariants as call
-use Rattle.thread_scripts.specs.CallLines.{CallLine}
+use Rattle.call_operands.specs.Operands as said
+use Rattle.call_operands.specs.Operands.{NamedSaid, operands_of}
+use Rattle.call_operands.specs.Seen.{named_seen}
+use Rattle.call_operands.specs.declared.value.Operand.{Operand}
+use Rattle.thread_scripts.specs.declared.line.Data.{Data}
 use Rattle.thread_scripts.specs.declared.line.Line.{Line}
 use Rattle.thread_scripts.specs.declared.line.Line.TheVariants as line
 use Rattle.thread_scripts.specs.declared.line.Number.{Number}
 use Rattle.thread_scripts.specs.declared.line.Number.TheVariants as number
 use Rattle.script_checks.specs.declared.descriptors.SharedDescriptor.{SharedDescriptor}
 
--- the number of an operand that is one, and no register
-abbrev pub fixed : Number → Option ℤ
-fixed (number.Value n) = Some n
-fixed (number.Register register) = None
+-- the number by which an operand names a descriptor: it is one, and no register
+abbrev pub fixed_operand : NamedSaid Number Data → Option ℤ
+fixed_operand (name, said.Descriptor (number.Value n)) = Some n
+fixed_operand other = None
 
--- the descriptors that the first and the second operand of a call name by their numbers
-abbrev pub fixed_in_call : CallLine → Option ℤ × Option ℤ
-fixed_in_call (call.Close descriptor) = (fixed descriptor, None)
-fixed_in_call (call.Read descriptor count) = (fixed descriptor, None)
-fixed_in_call (call.Write descriptor bytes) = (fixed descriptor, None)
-fixed_in_call (call.Pread descriptor count position) = (fixed descriptor, None)
-fixed_in_call (call.Pwrite descriptor bytes position) = (fixed descriptor, None)
-fixed_in_call (call.Lseek descriptor offset whence) = (fixed descriptor, None)
-fixed_in_call (call.Ftruncate descriptor size) = (fixed descriptor, None)
-fixed_in_call (call.Fstat descriptor) = (fixed descriptor, None)
-fixed_in_call (call.Dup descriptor) = (fixed descriptor, None)
-fixed_in_call (call.DupFrom descriptor least) = (fixed descriptor, None)
-fixed_in_call (call.Dup2 descriptor target) = (fixed descriptor, fixed target)
-fixed_in_call (call.Getfl descriptor) = (fixed descriptor, None)
-fixed_in_call (call.Setfl descriptor append nonblock) = (fixed descriptor, None)
-fixed_in_call (call.Shutdown descriptor how) = (fixed descriptor, None)
-fixed_in_call (call.TcpAccept descriptor) = (fixed descriptor, None)
-fixed_in_call _ = (None, None)
+-- the same of an operand as code sees it, if there is one
+abbrev pub fixed_seen : Option (Operand Number (Bor Data)) → Option ℤ
+fixed_seen None = None
+fixed_seen (Some o) = fixed_operand (named_seen o)
 
--- the descriptors that a line's first and second operand name by their numbers
-abbrev pub fixed_descriptors : Line → Option ℤ × Option ℤ
-fixed_descriptors (line.Call l) = fixed_in_call l
-fixed_descriptors _ = (None, None)
+-- of each operand of a line, the number by which it names a descriptor, if it does
+abbrev pub fixed_descriptors : Line → List (Option ℤ)
+fixed_descriptors (line.Call l) = map fixed_operand (operands_of l)
+fixed_descriptors _ = []
 
 -- a descriptor is named there, and by this number
 abbrev pub is_number : ℤ → Option ℤ → Bool
@@ -48,7 +38,7 @@ is_number n (Some m) = int_eq n m
 
 -- a line names this descriptor by its number
 abbrev pub names : ℤ → Line → Bool
-names n l = is_number n (fixed_descriptors l).0 || is_number n (fixed_descriptors l).1
+names n l = list_any (is_number n) (fixed_descriptors l)
 
 -- the numbers of the scripts that do, the first of which has this one
 abbrev pub naming_from : ℕ → ℤ → List (List Line) → List ℕ
@@ -95,12 +85,21 @@ pub record AddsOf (scripts : List (List Line)) (lines : List Line)
   pub kept : (m : ℤ) → has_number m shared ≡ true → has_number m more ≡ true
   pub told : (m : ℤ) → list_any (names m) lines ≡ true → IsToldIfShared scripts more m
 
+-- which of these operands names a descriptor first by its number, if one does; the first has this
+-- number
+abbrev pub operand_naming : ℕ → ℤ → List (Option ℤ) → Option ℕ
+operand_naming i n [] = None
+operand_naming i n (operand ∷ operands) =
+    if is_number n operand then Some i else operand_naming (i + 1) n operands
+
+-- the place of a line and the word of it that names a descriptor, if one does; or what is later
+abbrev pub used_or : ℕ → Option ℕ → Option (ℕ × ℕ) → Option (ℕ × ℕ)
+used_or place None later = later
+used_or place (Some word) later = Some (place, word)
+
 -- where lines name a descriptor first by its number, if they do: the place of the line, of which
--- the
--- first has this one, and the number of the word in it, from 0
+-- the first has this one, and the number of the word in it, from 0
 abbrev pub first_use_from : ℕ → ℤ → List Line → Option (ℕ × ℕ)
 first_use_from place n [] = None
 first_use_from place n (l ∷ lines) =
-    if is_number n (fixed_descriptors l).0 then Some (place, 1)
-    else if is_number n (fixed_descriptors l).1 then Some (place, 2)
-    else first_use_from (place + 1) n lines
+    used_or place (operand_naming 1 n (fixed_descriptors l)) (first_use_from (place + 1) n lines)

@@ -1,13 +1,13 @@
 ghost use Rattle.std.specs.Prelude.{◌≡◌, ◌∷◌, [], IfOk, OnOk, Some};
 ghost use Rattle.std.specs.List.{list_any};
 ghost use Rattle.script_checks.specs.Sharing.{Adds, AddsOf, AreAllShared, AreSharedOnce};
-ghost use Rattle.script_checks.specs.Sharing.{first_use_from, fixed, fixed_descriptors};
-ghost use Rattle.script_checks.specs.Sharing.{fixed_in_call, has_number};
-ghost use Rattle.script_checks.specs.Sharing.{is_number, names, naming_from};
+ghost use Rattle.script_checks.specs.Sharing.{first_use_from, fixed_descriptors, fixed_seen};
+ghost use Rattle.script_checks.specs.Sharing.{has_number, is_number, names, naming_from};
+ghost use Rattle.script_checks.specs.Sharing.{operand_naming};
 
-use posix_terms::Call;
+use call_operands::{Operand, OperandValue, operands};
 use std::alloc::{AllocError, Global};
-use thread_scripts::{CallLine, Line, Number, Script};
+use thread_scripts::{Data, Line, Number, Script};
 
 /// A descriptor that more than one script names by its number.
 #[derive(Debug, Drop)]
@@ -17,58 +17,19 @@ pub struct SharedDescriptor {
     pub scripts: Vec<usize>,
 }
 
-// The number of an operand that is one, and no register.
-fn fixed(number: Number) -> Option<i64>
-    ensures { result ≡ fixed number }
-{
-    match number {
-        Number::Value(value) => Some(value),
-        Number::Register(_) => None,
-    }
-}
+// An operand of a line, whose numbers and bytes may be registers.
+type LineOperand<'a> = Operand<'a, Number, &'a Data>;
 
-// The descriptors that the first and the second operand of a call name by their numbers.
-fn fixed_in_call(call: &CallLine) -> (Option<i64>, Option<i64>)
-    ensures { result ≡ fixed_in_call call.now }
+// The number by which an operand names a descriptor, if it does.
+fn fixed_operand(operand: &Option<LineOperand<'_>>) -> Option<i64>
+    ensures { result ≡ fixed_seen operand.now }
 {
-    match call {
-        Call::Dup2 { descriptor, target } => (fixed(*descriptor), fixed(*target)),
-        Call::Close { descriptor }
-        | Call::Read { descriptor, .. }
-        | Call::Write { descriptor, .. }
-        | Call::Pread { descriptor, .. }
-        | Call::Pwrite { descriptor, .. }
-        | Call::Lseek { descriptor, .. }
-        | Call::Ftruncate { descriptor, .. }
-        | Call::Fstat { descriptor }
-        | Call::Dup { descriptor }
-        | Call::DupFrom { descriptor, .. }
-        | Call::Getfl { descriptor }
-        | Call::Setfl { descriptor, .. }
-        | Call::Shutdown { descriptor, .. }
-        | Call::TcpAccept { descriptor } => (fixed(*descriptor), None),
-        Call::Open { .. }
-        | Call::Link { .. }
-        | Call::Unlink { .. }
-        | Call::Rename { .. }
-        | Call::Mkdir { .. }
-        | Call::Rmdir { .. }
-        | Call::Pipe
-        | Call::Socketpair
-        | Call::HostOpen { .. }
-        | Call::TcpListen { .. }
-        | Call::TcpConnect { .. } => (None, None),
-    }
-}
-
-// The descriptors that the first and the second operand of a line name by their numbers. The second
-// is that of `dup2` alone.
-fn fixed_descriptors(line: &Line) -> (Option<i64>, Option<i64>)
-    ensures { result ≡ fixed_descriptors line.now }
-{
-    match line {
-        Line::Call(call) => fixed_in_call(call),
-        _ => (None, None),
+    let Some(Operand { value, .. }) = operand else {
+        return None;
+    };
+    match value {
+        OperandValue::Descriptor(Number::Value(number)) => Some(*number),
+        _ => None,
     }
 }
 
@@ -81,12 +42,32 @@ fn is_number(number: i64, operand: Option<i64>) -> bool
     }
 }
 
+// The number of the word in a line, from 0, that names this descriptor first by its number.
+#[tactic(auto, using(crate::proofs::Naming::by_place))]
+fn word_naming(line: &Line, number: i64) -> Option<usize>
+    ensures { result ≡ operand_naming 1 number (fixed_descriptors line.now) }
+{
+    let Line::Call(call) = line else {
+        return None;
+    };
+    let operands = operands(call);
+    if is_number(number, fixed_operand(&operands.first)) {
+        Some(1)
+    } else if is_number(number, fixed_operand(&operands.second)) {
+        Some(2)
+    } else if is_number(number, fixed_operand(&operands.third)) {
+        Some(3)
+    } else {
+        None
+    }
+}
+
 // Whether a line names this descriptor by its number.
+#[tactic(auto, using(crate::proofs::Naming::named))]
 fn names(line: &Line, number: i64) -> bool
     ensures { result ≡ names number line.now }
 {
-    let (first, second) = fixed_descriptors(line);
-    is_number(number, first) || is_number(number, second)
+    word_naming(line, number).is_some()
 }
 
 // Whether one of these lines does.
@@ -139,17 +120,18 @@ fn add_if_shared(
     Ok(())
 }
 
-// The same for an operand, if it is a number.
+// The same for an operand, if it names a descriptor by its number.
 fn add_operand(
     alloc: Global,
     scripts: &[Script],
-    number: Option<i64>,
+    operand: &Option<LineOperand<'_>>,
     shared: &mut Vec<SharedDescriptor>,
 ) -> Result<(), AllocError>
     requires { AreSharedOnce scripts.now shared.old.items }
-    ensures { OnOk result (Adds scripts.now number shared.old.items shared.new.items) }
+    ensures { OnOk result (
+        Adds scripts.now (fixed_seen operand.now) shared.old.items shared.new.items) }
 {
-    match number {
+    match fixed_operand(operand) {
         Some(number) => add_if_shared(alloc, scripts, number, shared),
         None => Ok(()),
     }
@@ -165,9 +147,13 @@ fn add_line(
     requires { AreSharedOnce scripts.now shared.old.items }
     ensures { OnOk result (AddsOf scripts.now (line.now ∷ []) shared.old.items shared.new.items) }
 {
-    let (first, second) = fixed_descriptors(line);
-    add_operand(alloc, scripts, first, shared)?;
-    add_operand(alloc, scripts, second, shared)
+    let Line::Call(call) = line else {
+        return Ok(());
+    };
+    let operands = operands(call);
+    add_operand(alloc, scripts, &operands.first, shared)?;
+    add_operand(alloc, scripts, &operands.second, shared)?;
+    add_operand(alloc, scripts, &operands.third, shared)
 }
 
 // Adds those that these lines name.
@@ -207,12 +193,8 @@ pub fn first_use(lines: &[Line], number: i64) -> Option<(usize, usize)>
     ensures { result ≡ first_use_from 0 number lines.now }
 {
     for place in 0..lines.len() {
-        let (first, second) = fixed_descriptors(&lines[place]);
-        if is_number(number, first) {
-            return Some((place, 1));
-        }
-        if is_number(number, second) {
-            return Some((place, 2));
+        if let Some(word) = word_naming(&lines[place], number) {
+            return Some((place, word));
         }
     }
     None

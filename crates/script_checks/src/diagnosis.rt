@@ -4,7 +4,7 @@ ghost use Rattle.script_checks.specs.Columns.{IsColumn, IsWordOf};
 use crate::expected::{Expected, Found, Mistake};
 use crate::fitting::{expected_for, is_flag};
 use crate::labels::NamedLabel;
-use crate::operand::{FlagSet, Operand};
+use crate::operand::{FlagSet, OperandShape};
 use crate::shape::shape_of;
 use crate::words::{PlacedWord, placed_words};
 use std::alloc::{AllocError, Global};
@@ -102,7 +102,7 @@ fn wrong_operand<'a>(
     labels: &[NamedLabel],
     number: usize,
     line: &'a [u8],
-    operands: &[Operand],
+    operands: &[OperandShape],
     words: &[PlacedWord<'a>],
 ) -> Option<Mistake<'a>>
     requires { All (λ w. IsWordOf line.now w.text.now w.column) words.now }

@@ -1,4 +1,4 @@
-use crate::operand::{FlagSet, Operand};
+use crate::operand::{FlagSet, OperandShape};
 
 /// What is expected where a line is bad.
 #[derive(Clone, Copy, Debug, PartialEq, Eq)]
@@ -9,7 +9,7 @@ pub enum Expected {
     Visible,
     /// A word that lines begin with.
     Word,
-    Operand(Operand),
+    Operand(OperandShape),
     /// A number of 64 bits: what stands there has too many digits for one.
     NumberInRange,
     /// At most 32,767 bytes: what stands there has more.

@@ -1,6 +1,6 @@
 use crate::expected::Expected;
 use crate::labels::{NamedLabel, is_label_name, line_of_label};
-use crate::operand::{FlagSet, Operand};
+use crate::operand::{FlagSet, OperandShape};
 use posix_terms::Limits;
 use thread_scripts::{byte_register, natural, number, register};
 
@@ -9,36 +9,37 @@ use thread_scripts::{byte_register, natural, number, register};
 pub(crate) fn expected_for(
     labels: &[NamedLabel],
     line: usize,
-    operand: Operand,
+    operand: OperandShape,
     word: &[u8],
 ) -> Option<Expected> {
     match operand {
-        Operand::Number => expected_number(word),
-        Operand::Bytes => expected_bytes(word),
-        Operand::NewLabel => expected_new_label(labels, line, word),
+        OperandShape::Number => expected_number(word),
+        OperandShape::Bytes => expected_bytes(word),
+        OperandShape::NewLabel => expected_new_label(labels, line, word),
         _ if fits(labels, operand, word) => None,
         _ => Some(Expected::Operand(operand)),
     }
 }
 
 // Whether a word is good as an operand of any other kind.
-fn fits(labels: &[NamedLabel], operand: Operand, word: &[u8]) -> bool {
+fn fits(labels: &[NamedLabel], operand: OperandShape, word: &[u8]) -> bool {
     match operand {
-        Operand::Amount => natural(word, Limits::WORK).is_some(),
-        Operand::Register => register(word).is_some(),
-        Operand::ByteRegister => byte_register(word).is_some(),
-        Operand::Access => {
+        OperandShape::Amount => natural(word, Limits::WORK).is_some(),
+        OperandShape::Register => register(word).is_some(),
+        OperandShape::ByteRegister => byte_register(word).is_some(),
+        OperandShape::Access => {
             word == b"r".as_slice() || word == b"w".as_slice() || word == b"rw".as_slice()
         }
-        Operand::Whence => {
+        OperandShape::Whence => {
             word == b"set".as_slice() || word == b"cur".as_slice() || word == b"end".as_slice()
         }
-        Operand::HowToShut => {
+        OperandShape::HowToShut => {
             word == b"read".as_slice() || word == b"write".as_slice() || word == b"both".as_slice()
         }
-        Operand::KnownLabel => line_of_label(labels, word).is_some(),
+        OperandShape::KnownLabel => line_of_label(labels, word).is_some(),
         // Any word that can be seen is a path; the others are asked for elsewhere.
-        Operand::Path | Operand::Number | Operand::Bytes | Operand::NewLabel => true,
+        OperandShape::Path | OperandShape::Number | OperandShape::Bytes | OperandShape::NewLabel =>
+            true,
     }
 }
 
@@ -48,7 +49,7 @@ fn expected_number(word: &[u8]) -> Option<Expected> {
     } else if is_decimal(word) {
         Some(Expected::NumberInRange)
     } else {
-        Some(Expected::Operand(Operand::Number))
+        Some(Expected::Operand(OperandShape::Number))
     }
 }
 
@@ -66,10 +67,10 @@ fn expected_bytes(word: &[u8]) -> Option<Expected> {
         return None;
     }
     let [b'x', digits @ ..] = word else {
-        return Some(Expected::Operand(Operand::Bytes));
+        return Some(Expected::Operand(OperandShape::Bytes));
     };
     if digits.len() % 2 != 0 || !digits.iter().all(|byte| byte.is_ascii_hexdigit()) {
-        Some(Expected::Operand(Operand::Bytes))
+        Some(Expected::Operand(OperandShape::Bytes))
     } else if digits.len() / 2 > Limits::COUNT {
         Some(Expected::FewerBytes)
     } else {

@@ -10,12 +10,12 @@
 //! jumps to it, and a line exactly when it is not reached. What is said to be expected is tested.
 //!
 //! ```rust
-//! use script_checks::{Checked, Expected, Found, Operand, check_text};
+//! use script_checks::{Checked, Expected, Found, OperandShape, check_text};
 //!
 //! if let Checked::Bad { shown, .. } = check_text(alloc, b"open /a r\nread 0\n")? {
 //!     assert!(rt; shown.len() == 1);
 //!     assert!(rt; shown[0].number == 2 && shown[0].mistake.column == 7);
-//!     assert!(rt; shown[0].mistake.expected == Expected::Operand(Operand::Number));
+//!     assert!(rt; shown[0].mistake.expected == Expected::Operand(OperandShape::Number));
 //!     assert!(rt; matches!(shown[0].mistake.found, Found::End));
 //! }
 //! ```
@@ -37,5 +37,5 @@ pub use checking::{ActingLine, BadLine, Checked, SHOWN, check_text};
 pub use concerns::{Concern, Warning};
 pub use descriptors::{SharedDescriptor, first_use, shared_descriptors};
 pub use expected::{Expected, Found, Mistake};
-pub use operand::{FlagSet, Operand};
+pub use operand::{FlagSet, OperandShape};
 pub use words::PlacedWord;

@@ -11,7 +11,7 @@ pub enum FlagSet {
 
 /// What an operand of a line has to be.
 #[derive(Clone, Copy, Debug, PartialEq, Eq)]
-pub enum Operand {
+pub enum OperandShape {
     Number,
     /// The length of a work.
     Amount,
@@ -29,7 +29,7 @@ pub enum Operand {
 /// What may stand after the first word of a line.
 #[derive(Clone, Copy, Debug)]
 pub(crate) struct Shape {
-    pub operands: &'static [Operand],
+    pub operands: &'static [OperandShape],
     /// Those that may follow the operands, if any may.
     pub flags: Option<FlagSet>,
 }

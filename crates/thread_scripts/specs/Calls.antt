@@ -6,6 +6,7 @@ use Rattle.posix_terms.specs.Calls.{word_of}
 use Rattle.posix_terms.specs.declared.call.Access.{Access}
 use Rattle.posix_terms.specs.declared.call.Call.TheVariants as call
 use Rattle.posix_terms.specs.declared.call.CallKind.{CallKind}
+use Rattle.posix_terms.specs.declared.call.TheConstants.CallKind as kinds
 use Rattle.posix_terms.specs.declared.call.CallKind.TheVariants as kind
 use Rattle.posix_terms.specs.declared.call.OpenFlags.{OpenFlags}
 use Rattle.posix_terms.specs.declared.call.ShutdownHow.{ShutdownHow}
@@ -43,15 +44,6 @@ register_or_bytes None value = option_map bytes.Text value
 unfoldable pub data_operand : List ℕ → Option Data
 data_operand word = register_or_bytes (byte_register_of word) (bytes_of word)
 
--- all calls
-abbrev pub kinds : List CallKind
-kinds =
-    kind.Open ∷ kind.Close ∷ kind.Read ∷ kind.Write ∷ kind.Pread ∷ kind.Pwrite ∷ kind.Lseek
-    ∷ kind.Ftruncate ∷ kind.Fstat ∷ kind.Dup ∷ kind.DupFrom ∷ kind.Dup2 ∷ kind.Getfl
-    ∷ kind.Setfl ∷ kind.Link ∷ kind.Unlink ∷ kind.Rename ∷ kind.Mkdir ∷ kind.Rmdir ∷ kind.Pipe
-    ∷ kind.Socketpair ∷ kind.Shutdown ∷ kind.HostOpen ∷ kind.TcpListen ∷ kind.TcpConnect
-    ∷ kind.TcpAccept ∷ []
-
 -- the first call of these that a word names
 abbrev pub kind_among : List CallKind → List ℕ → Option CallKind
 kind_among [] word = None
@@ -59,7 +51,7 @@ kind_among (k ∷ ks) word = if bytes_eq word (word_of k) then Some k else kind_
 
 -- the call that a word names
 abbrev pub kind_named : List ℕ → Option CallKind
-kind_named word = kind_among kinds word
+kind_named word = kind_among kinds.ALL word
 
 -- ## Operands, by their shapes
 

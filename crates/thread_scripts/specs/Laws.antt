@@ -3,8 +3,11 @@
 use Rattle.std.specs.Prelude.{◌≡◌, true, ◌≢◌, ℕ, ◌+◌, ◌<◌, ◌≤◌, ◌↔◌, ◌⊎◌, List, [], ◌∷◌, ◌++◌}
 use Rattle.std.specs.Prelude.{codes, length, map, filter_map, slice_get, Option, Some, None, Ok}
 use Rattle.std.specs.Prelude.{Err, option_and_then}
+use Rattle.posix_terms.specs.Calls.{word_of}
+use Rattle.posix_terms.specs.declared.call.CallKind.{CallKind}
 use Rattle.posix_terms.specs.declared.limits.TheConstants.Limits.{SCRIPT_LINES}
 use Rattle.posix_terms.specs.declared.reply.Reply.{Reply}
+use Rattle.thread_scripts.specs.Calls.{kind_named}
 use Rattle.thread_scripts.specs.Faults.{bad_line, too_long}
 use Rattle.thread_scripts.specs.Grammar.{readings_of, script_of}
 use Rattle.thread_scripts.specs.Meaning.{lines_left, next_of}
@@ -88,3 +91,7 @@ RunsEnd = (last : Option Reply) (s : ScriptState) → ((next_of last s).0 ≡ st
 -- the script itself never changes
 abbrev pub ScriptStays : Type 0
 ScriptStays = (last : Option Reply) (s : ScriptState) → (next_of last s).1.script ≡ s.script
+
+-- the word of each call names it: no call is left out, and no two have one word
+abbrev pub WordsNameCalls : Type 0
+WordsNameCalls = (kind : CallKind) → kind_named (word_of kind) ≡ Some kind

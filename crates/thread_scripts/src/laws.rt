@@ -1,6 +1,6 @@
 ghost use Rattle.thread_scripts.specs.Laws.{AcceptedExactly, BadLineIsFirst, JumpsLeadByName};
 ghost use Rattle.thread_scripts.specs.Laws.{JumpsLeadToLabels, ReadScriptsKeepRules, RunsEnd};
-ghost use Rattle.thread_scripts.specs.Laws.{ScriptStays, TooLongIsCounted};
+ghost use Rattle.thread_scripts.specs.Laws.{ScriptStays, TooLongIsCounted, WordsNameCalls};
 ghost use Rattle.thread_scripts.specs.ScriptPrograms.{NeverLacks, ScriptsEnd};
 
 /// The law of texts that are too long: those with more than 1,000 lines, whatever these are.
@@ -17,6 +17,11 @@ pub fn bad_line_is_the_first()
 /// good, and the script's lines are what they say.
 pub fn accepted_exactly()
     ensures { AcceptedExactly }
+{}
+
+/// The law of words: that of a call names it, so no call is left out, and no two have one word.
+pub fn words_name_calls()
+    ensures { WordsNameCalls }
 {}
 
 /// The law of jumps: in a script that was read, each leads to a label's line

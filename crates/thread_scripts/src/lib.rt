@@ -57,7 +57,7 @@ pub use fault::{Memory, ScriptFault};
 pub use grammar::parse;
 pub use laws::{
     accepted_exactly, bad_line_is_the_first, jumps_lead_to_labels, programs_of_scripts,
-    read_scripts_keep_rules, runs_end, script_stays, too_long_is_counted,
+    read_scripts_keep_rules, runs_end, script_stays, too_long_is_counted, words_name_calls,
 };
 pub use line::{ByteRegister, CallLine, Data, Line, Number, NumberRegister, Register};
 pub use numbers::{byte_register, natural, number, register};
