@@ -5,7 +5,7 @@ use Rattle.std.proofs.lemmas.Bool.{false≢true}
 use Rattle.std.specs.FinMap as fin
 use Rattle.std.specs.Option.{option_map}
 use Rattle.sequential_object.specs.Descriptors as posix
-use Rattle.sequential_object.specs.Object as object
+use Rattle.sequential_object.specs.Object as sequential
 use Rattle.sequential_object.specs.Object.{State, Content, DoorTo, File, Pair, Pipe, content_of}
 use Rattle.sequential_object.specs.Streams.{Breaks, Ends, NoRoom, NothingYet, PairState, Reading, Reads, Writes}
 use Rattle.sequential_object.specs.Streams.{Writing}
@@ -89,40 +89,40 @@ module _ (law : TableFollows) (h : Stored) (w : World) (st : Stands h w) where
   pub key_named : (a : Act) → key_of (act_by (names_of h.table) a) ≡ option_map (birth_of h.table) (key_of a)
   key_named a = grind arith
 
-  module _ (node : ℕ) (used : is_used h.table node ≡ true) where
+  module _ (object : ℕ) (used : is_used h.table object ≡ true) where
     -- what the object holds that has this end
-    held_is : (e : End) → is_of e (content_of w.object (birth_at h.table node)) ≡ true
-        → content_of w.object (birth_at h.table node) ≡ held_by e (kept_at h node)
+    held_is : (e : End) → is_of e (content_of w.object (birth_at h.table object)) ≡ true
+        → content_of w.object (birth_at h.table object) ≡ held_by e (kept_at h object)
     held_is e its =
-        let at = birth_is h.table node used in
-        let got = some_content (fin.get w.object.objects (birth_at h.table node))
-        (st.shows.objects node (birth_at h.table node) at) in
-        st.contents node (birth_at h.table node) at (content_of w.object (birth_at h.table node)) got
-        ∙ is_held law.doors e (content_of w.object (birth_at h.table node)) (kept_at h node) its
+        let at = birth_is h.table object used in
+        let got = some_content (fin.get w.object.objects (birth_at h.table object))
+        (st.shows.objects object (birth_at h.table object) at) in
+        st.contents object (birth_at h.table object) at (content_of w.object (birth_at h.table object)) got
+        ∙ is_held law.doors e (content_of w.object (birth_at h.table object)) (kept_at h object) its
 
-    same_end : (which : End) → is_of which (content_of w.object (birth_at h.table node)) ≡ true
-        → posix.has_end w.object (birth_at h.table node) which ≡ is_open h.table node which
-    same_end which its = law.ends h.table w.object node which st.sound st.described st.shows used its
+    same_end : (which : End) → is_of which (content_of w.object (birth_at h.table object)) ≡ true
+        → posix.has_end w.object (birth_at h.table object) which ≡ is_open h.table object which
+    same_end which its = law.ends h.table w.object object which st.sound st.described st.shows used its
 
   there : (at : Seen) → IsSeen (view h.table) at → IsThere h.table at
   there at its = law.seen h.table at st.sound its
 
   -- the object of a description that was seen
-  end_at : (at : Seen) (node : ℕ) → IsSeen (view h.table) at → at.object ≡ node
-      → is_of at.«end» (content_of w.object (birth_at h.table node)) ≡ true
-  end_at at node its is =
+  end_at : (at : Seen) (object : ℕ) → IsSeen (view h.table) at → at.object ≡ object
+      → is_of at.«end» (content_of w.object (birth_at h.table object)) ≡ true
+  end_at at object its is =
       let known : IsThere h.table at = there at its in
       subst (λ (n : ℕ). is_of at.«end» (content_of w.object (birth_at h.table n)) ≡ true) is
       (known.ends w.object st.shows)
 
-  used_at : (at : Seen) (node : ℕ) → IsSeen (view h.table) at → at.object ≡ node → is_used h.table node ≡ true
-  used_at at node its is = let known : IsThere h.table at = there at its in
+  used_at : (at : Seen) (object : ℕ) → IsSeen (view h.table) at → at.object ≡ object → is_used h.table object ≡ true
+  used_at at object its is = let known : IsThere h.table at = there at its in
       subst (λ (n : ℕ). is_used h.table n ≡ true) is known.used
 
-  file_at : (at : Seen) (node : ℕ) → IsFile (view h.table) node at
-      → is_of part.Only (content_of w.object (birth_at h.table node)) ≡ true
-  file_at at node file = subst (λ (e : End). is_of e (content_of w.object (birth_at h.table node)) ≡ true) file.only
-      (end_at at node file.found file.object_is)
+  file_at : (at : Seen) (object : ℕ) → IsFile (view h.table) object at
+      → is_of part.Only (content_of w.object (birth_at h.table object)) ≡ true
+  file_at at object file = subst (λ (e : End). is_of e (content_of w.object (birth_at h.table object)) ≡ true) file.only
+      (end_at at object file.found file.object_is)
 
   -- its birth
   offset_at : (at : Seen) → IsSeen (view h.table) at
@@ -131,119 +131,121 @@ module _ (law : TableFollows) (h : Stored) (w : World) (st : Stands h w) where
       let known : IsThere h.table at = there at its in
       let got : fin.get h.table.descriptions.by_key at.key ≡ Some (description_at h.table.descriptions at.key) =
       known_at h.table.descriptions at.key known.key in
-      ap (λ (o : Option object.Description). offset_in o)
+      ap (λ (o : Option sequential.Description). offset_in o)
       (st.shows.descriptions at.key (description_at h.table.descriptions at.key) got)
 
   -- ## What holds of the object of each act
 
-  pub record Ready (node : ℕ) (a : Act) : Type 0 where
-    pub used : is_used h.table node ≡ true
+  pub record Ready (object : ℕ) (a : Act) : Type 0 where
+    pub used : is_used h.table object ≡ true
     pub known : IsKnown h.table (key_of a)
-    pub content : content_of w.object (birth_at h.table node) ≡ held_for a (kept_at h node)
+    pub content : content_of w.object (birth_at h.table object) ≡ held_for a (kept_at h object)
     pub offset : offset_in (description_of w.object (option_map (birth_of h.table) (key_of a))) ≡ stands_at h (key_of a)
 
-  by_seen : (at : Seen) (node : ℕ) (a : Act) → key_of a ≡ Some at.key → IsSeen (view h.table) at → at.object ≡ node
-      → held_by at.«end» (kept_at h node) ≡ held_for a (kept_at h node) → Ready node a
-  by_seen at node a key its is same =
+  by_seen : (at : Seen) (object : ℕ) (a : Act) → key_of a ≡ Some at.key → IsSeen (view h.table) at → at.object ≡ object
+      → held_by at.«end» (kept_at h object) ≡ held_for a (kept_at h object) → Ready object a
+  by_seen at object a key its is same =
       let known : IsThere h.table at = there at its in
       record {
-        used = used_at at node its is;
+        used = used_at at object its is;
         known = subst (IsKnown h.table) (sym key) known.key;
-        content = held_is node (used_at at node its is) at.«end» (end_at at node its is) ∙ same;
+        content = held_is object (used_at at object its is) at.«end» (end_at at object its is) ∙ same;
         offset =
             ap (λ (k : Option ℕ). offset_in (description_of w.object (option_map (birth_of h.table) k))) key
             ∙ offset_at at its ∙ sym (ap (stands_at h) key);
       }
 
-  by_file : (at : Seen) (node : ℕ) (a : Act) → key_of a ≡ None → IsFile (view h.table) node at
-      → held_for a (kept_at h node) ≡ File (kept_at h node).file → Ready node a
-  by_file at node a key file same =
+  by_file : (at : Seen) (object : ℕ) (a : Act) → key_of a ≡ None → IsFile (view h.table) object at
+      → held_for a (kept_at h object) ≡ File (kept_at h object).file → Ready object a
+  by_file at object a key file same =
       record {
-        used = used_at at node file.found file.object_is;
+        used = used_at at object file.found file.object_is;
         known = subst (IsKnown h.table) (sym key) tt;
-        content = held_is node (used_at at node file.found file.object_is) part.Only (file_at at node file) ∙ sym same;
+        content = held_is object (used_at at object file.found file.object_is) part.Only (file_at at object file)
+            ∙ sym same;
         offset =
             ap (λ (k : Option ℕ). offset_in (description_of w.object (option_map (birth_of h.table) k))) key
             ∙ sym (ap (stands_at h) key);
       }
 
-  pub ready : (c : Call) (node : ℕ) (a : Act) → ReadsOrWrites a → CanAct (view h.table) c node a → Ready node a
-  ready c node (act.Read from count) its can = by_seen from node (act.Read from count) refl can.0.found can.0.object_is
+  pub ready : (c : Call) (object : ℕ) (a : Act) → ReadsOrWrites a → CanAct (view h.table) c object a → Ready object a
+  ready c object (act.Read from count) its can =
+      by_seen from object (act.Read from count) refl can.0.found can.0.object_is refl
+  ready c object (act.Write to before) its can =
+      by_seen to object (act.Write to before) refl can.found can.object_is refl
+  ready c object (act.Pread count position) its can = by_file can.0.at object (act.Pread count position) refl can.0.file
       refl
-  ready c node (act.Write to before) its can = by_seen to node (act.Write to before) refl can.found can.object_is refl
-  ready c node (act.Pread count position) its can = by_file can.0.at node (act.Pread count position) refl can.0.file
-      refl
-  ready c node (act.Pwrite position) its can = by_file can.at node (act.Pwrite position) refl can.file refl
-  ready c node (act.Lseek at) its can = by_seen at node (act.Lseek at) refl can.found can.object_is
-      (ap (λ (e : End). held_by e (kept_at h node)) can.only)
-  ready c node (act.Ftruncate size) its can = by_file can.0.at node (act.Ftruncate size) refl can.0.file refl
-  ready c node (act.Fstat links) its can = by_file can.at node (act.Fstat links) refl can.file refl
-  ready c node (act.Shutdown side how) its can =
-      let used = used_at can.at node can.found can.object_is in
+  ready c object (act.Pwrite position) its can = by_file can.at object (act.Pwrite position) refl can.file refl
+  ready c object (act.Lseek at) its can = by_seen at object (act.Lseek at) refl can.found can.object_is
+      (ap (λ (e : End). held_by e (kept_at h object)) can.only)
+  ready c object (act.Ftruncate size) its can = by_file can.0.at object (act.Ftruncate size) refl can.0.file refl
+  ready c object (act.Fstat links) its can = by_file can.at object (act.Fstat links) refl can.file refl
+  ready c object (act.Shutdown side how) its can =
+      let used = used_at can.at object can.found can.object_is in
       record {
         used = used;
         known = tt;
         content =
-            held_is node used (part.Socket side)
-            (subst (λ (e : End). is_of e (content_of w.object (birth_at h.table node)) ≡ true) can.socket
-            (end_at can.at node can.found can.object_is));
+            held_is object used (part.Socket side)
+            (subst (λ (e : End). is_of e (content_of w.object (birth_at h.table object)) ≡ true) can.socket
+            (end_at can.at object can.found can.object_is));
         offset = refl;
       }
-  ready c node (act.Open n cut) its can = absurd its
-  ready c node (act.Create n) its can = absurd its
-  ready c node act.Release its can = absurd its
-  ready c node (act.Pipe first second) its can = absurd its
-  ready c node (act.Socketpair first second) its can = absurd its
+  ready c object (act.Open n cut) its can = absurd its
+  ready c object (act.Create n) its can = absurd its
+  ready c object act.Release its can = absurd its
+  ready c object (act.Pipe first second) its can = absurd its
+  ready c object (act.Socketpair first second) its can = absurd its
 
   -- ## It does the same
 
   Open : ℕ → End → Bool
-  Open node which = is_open h.table node which
+  Open object which = is_open h.table object which
 
-  pub acts_alike : (c : Call) (node : ℕ) (a : Act) (offset : ℕ) → ReadsOrWrites a → is_used h.table node ≡ true
-      → acted (posix.has_end w.object (birth_at h.table node)) (act_by (names_of h.table) a) c
-      (content_of w.object (birth_at h.table node)) offset
-      ≡ acted (is_open h.table node) a c (content_of w.object (birth_at h.table node)) offset
-  acts_alike c node (act.Read from count) offset its used = by_content (content_of w.object (birth_at h.table node))
+  pub acts_alike : (c : Call) (object : ℕ) (a : Act) (offset : ℕ) → ReadsOrWrites a → is_used h.table object ≡ true
+      → acted (posix.has_end w.object (birth_at h.table object)) (act_by (names_of h.table) a) c
+      (content_of w.object (birth_at h.table object)) offset
+      ≡ acted (is_open h.table object) a c (content_of w.object (birth_at h.table object)) offset
+  acts_alike c object (act.Read from count) offset its used = by_content (content_of w.object (birth_at h.table object))
       refl
     where
-      by_content : (content : Content) → content_of w.object (birth_at h.table node) ≡ content
-          → acted (posix.has_end w.object (birth_at h.table node)) (act_by (names_of h.table) (act.Read from count)) c
+      by_content : (content : Content) → content_of w.object (birth_at h.table object) ≡ content
+          → acted (posix.has_end w.object (birth_at h.table object)) (act_by (names_of h.table) (act.Read from count)) c
           content offset
-          ≡ acted (is_open h.table node) (act.Read from count) c content offset
+          ≡ acted (is_open h.table object) (act.Read from count) c content offset
       by_content (File file) is = refl
-      by_content (Pipe waiting) is = rw (same_end node used part.Write (ap (is_of part.Write) is)) grind arith
+      by_content (Pipe waiting) is = rw (same_end object used part.Write (ap (is_of part.Write) is)) grind arith
       by_content (Pair p) is =
           let peer = part.Socket (peer_of (side_of from.«end»)) in
-          rw (same_end node used peer (ap (is_of peer) is)) grind arith
+          rw (same_end object used peer (ap (is_of peer) is)) grind arith
       by_content (DoorTo door) is = refl
-  acts_alike c node (act.Write to before) offset its used = by_content (content_of w.object (birth_at h.table node))
+  acts_alike c object (act.Write to before) offset its used = by_content (content_of w.object (birth_at h.table object))
       refl
     where
-      by_content : (content : Content) → content_of w.object (birth_at h.table node) ≡ content
-          → acted (posix.has_end w.object (birth_at h.table node)) (act_by (names_of h.table) (act.Write to before)) c
+      by_content : (content : Content) → content_of w.object (birth_at h.table object) ≡ content
+          → acted (posix.has_end w.object (birth_at h.table object)) (act_by (names_of h.table) (act.Write to before)) c
           content offset
-          ≡ acted (is_open h.table node) (act.Write to before) c content offset
+          ≡ acted (is_open h.table object) (act.Write to before) c content offset
       by_content (File file) is = grind arith
       by_content (Pipe waiting) is =
-          let readers = same_end node used part.Read (ap (is_of part.Read) is) in
+          let readers = same_end object used part.Read (ap (is_of part.Read) is) in
           grind (arith, readers)
       by_content (Pair p) is =
           let peer = part.Socket (peer_of (side_of to.«end»)) in
-          let others = same_end node used peer (ap (is_of peer) is) in
+          let others = same_end object used peer (ap (is_of peer) is) in
           grind (arith, others)
       by_content (DoorTo door) is = grind arith
-  acts_alike c node (act.Pread count position) offset its used = grind arith
-  acts_alike c node (act.Pwrite position) offset its used = grind arith
-  acts_alike c node (act.Lseek at) offset its used = grind arith
-  acts_alike c node (act.Ftruncate size) offset its used = grind arith
-  acts_alike c node (act.Fstat links) offset its used = grind arith
-  acts_alike c node (act.Shutdown side how) offset its used = grind arith
-  acts_alike c node (act.Open n cut) offset its used = absurd its
-  acts_alike c node (act.Create n) offset its used = absurd its
-  acts_alike c node act.Release offset its used = absurd its
-  acts_alike c node (act.Pipe first second) offset its used = absurd its
-  acts_alike c node (act.Socketpair first second) offset its used = absurd its
+  acts_alike c object (act.Pread count position) offset its used = grind arith
+  acts_alike c object (act.Pwrite position) offset its used = grind arith
+  acts_alike c object (act.Lseek at) offset its used = grind arith
+  acts_alike c object (act.Ftruncate size) offset its used = grind arith
+  acts_alike c object (act.Fstat links) offset its used = grind arith
+  acts_alike c object (act.Shutdown side how) offset its used = grind arith
+  acts_alike c object (act.Open n cut) offset its used = absurd its
+  acts_alike c object (act.Create n) offset its used = absurd its
+  acts_alike c object act.Release offset its used = absurd its
+  acts_alike c object (act.Pipe first second) offset its used = absurd its
+  acts_alike c object (act.Socketpair first second) offset its used = absurd its
   -- ## Its content stays of one kind, and a failure changes nothing
 
 -- of one kind

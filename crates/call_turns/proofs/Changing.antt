@@ -75,43 +75,44 @@ module _ (h : Stored) (w : World) (st : Stands h w) (u : TableState) (after : St
       st.contents k b (was_there k b content is (kept b content got)) content (kept b content got))
 
   -- where an object is made that holds this
-  pub stands_made : (node : ℕ) (made : Content) → free_object h.table ≡ Some node
-      → slice_index_or h.table.objects node None ≡ None → node < length h.bodies
+  pub stands_made : (object : ℕ) (made : Content) → free_object h.table ≡ Some object
+      → slice_index_or h.table.objects object None ≡ None → object < length h.bodies
       → ((b : ℕ) (content : Content) → fin.get after.objects b ≡ Some content
       → (fin.get w.object.objects b ≡ Some content) ⊎ ((b ≡ w.object.next_object) × (content ≡ made)))
-      → Stands (record { table = u; bodies = emptied h.bodies node made }) (world_with w after)
-  stands_made node made free none inside came =
-      stands_by h w st u after m (emptied h.bodies node made)
+      → Stands (record { table = u; bodies = emptied h.bodies object made }) (world_with w after)
+  stands_made object made free none inside came =
+      stands_by h w st u after m (emptied h.bodies object made)
       (λ k b is content got. by_came k b is content (came b content got))
     where
       by_came : (k b : ℕ) → slice_index_or u.objects k None ≡ Some b → (content : Content)
           → (fin.get w.object.objects b ≡ Some content) ⊎ ((b ≡ w.object.next_object) × (content ≡ made))
-          → content ≡ kept_as content (slice_index_or (emptied h.bodies node made) k first_kept)
+          → content ≡ kept_as content (slice_index_or (emptied h.bodies object made) k first_kept)
       by_came k b is content (inl was) =
           let had = was_there k b content is was in
-          let apart : k ≢ node = λ same. none-some b
+          let apart : k ≢ object = λ same. none-some b
           (sym none ∙ ap (λ (i : ℕ). slice_index_or h.table.objects i None) (sym same) ∙ had) in
           st.contents k b had content was
-          ∙ ap (kept_as content) (sym (get_or-set_other h.bodies node k (keeping made (kept_at h node)) first_kept
+          ∙ ap (kept_as content) (sym (get_or-set_other h.bodies object k (keeping made (kept_at h object)) first_kept
           apart))
       by_came k b is content (inr (next, holds)) =
-          let here : k ≡ node = same_Some k node (sym (is_next k b is next) ∙ free) in
-          subst (λ (c : Content). c ≡ kept_as c (slice_index_or (emptied h.bodies node made) k first_kept)) (sym holds)
-          (kept_own made (kept_at h node)
-          ∙ ap (kept_as made) (sym (ap (λ (i : ℕ). slice_index_or (emptied h.bodies node made) i first_kept) here
-          ∙ get_or-set_same h.bodies node (keeping made (kept_at h node)) first_kept inside)))
+          let here : k ≡ object = same_Some k object (sym (is_next k b is next) ∙ free) in
+          subst (λ (c : Content). c ≡ kept_as c (slice_index_or (emptied h.bodies object made) k first_kept))
+          (sym holds)
+          (kept_own made (kept_at h object)
+          ∙ ap (kept_as made) (sym (ap (λ (i : ℕ). slice_index_or (emptied h.bodies object made) i first_kept) here
+          ∙ get_or-set_same h.bodies object (keeping made (kept_at h object)) first_kept inside)))
 
 module _ (law : TableFollows) (h : Stored) (w : World) (st : Stands h w) (long : length h.bodies ≡ limit.OBJECTS)
     (c : Call) where
-  made_at : (u : TableState) (node : ℕ) (made : Content) (after : State) → Leaves h.table u after
-      → free_object h.table ≡ Some node
+  made_at : (u : TableState) (object : ℕ) (made : Content) (after : State) → Leaves h.table u after
+      → free_object h.table ≡ Some object
       → ((b : ℕ) (content : Content) → fin.get after.objects b ≡ Some content
       → (fin.get w.object.objects b ≡ Some content) ⊎ ((b ≡ w.object.next_object) × (content ≡ made)))
-      → Stands (record { table = u; bodies = emptied h.bodies node made }) (world_with w after)
-  made_at u node made after m free came =
-      let next : IsNextObject h.table node = law.next h.table node free in
-      let low : node < 48 = next.0 in
-      stands_made h w st u after m node made free next.1 (omega (arith, low, long)) came
+      → Stands (record { table = u; bodies = emptied h.bodies object made }) (world_with w after)
+  made_at u object made after m free came =
+      let next : IsNextObject h.table object = law.next h.table object free in
+      let low : object < 48 = next.0 in
+      stands_made h w st u after m object made free next.1 (omega (arith, low, long)) came
 
   -- under the names of the state
   abbrev named : Change → Change

@@ -281,11 +281,11 @@ abbrev pub MakesNothing : Stored → Stored → Type 0
 MakesNothing h new = (new.table.descriptions.made ≡ h.table.descriptions.made)
     × (new.table.made_objects ≡ h.table.made_objects)
 
-pub left_made : (h : Stored) (node : ℕ) (key : Option ℕ) (done : Acted) → MakesNothing h (left_by h node key done)
-left_made h node key done = by_parts key done.offset done.content
+pub left_made : (h : Stored) (object : ℕ) (key : Option ℕ) (done : Acted) → MakesNothing h (left_by h object key done)
+left_made h object key done = by_parts key done.offset done.content
   where
     by_parts : (key offset : Option ℕ) (content : Option Content)
-        → MakesNothing h (holding_if (moved_if h key offset) node content)
+        → MakesNothing h (holding_if (moved_if h key offset) object content)
     by_parts None None None = (refl, refl)
     by_parts None None (Some content) = (refl, refl)
     by_parts None (Some offset) None = (refl, refl)

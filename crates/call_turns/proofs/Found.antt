@@ -19,9 +19,9 @@ some_is None d there = absurd (false≢true there)
 some_is (Some x) d there = refl
 
 -- an object that is there, and a description
-pub birth_is : (t : TableState) (node : ℕ) → is_used t node ≡ true
-    → slice_index_or t.objects node None ≡ Some (birth_at t node)
-birth_is t node used = some_is (slice_index_or t.objects node None) t.made_objects used
+pub birth_is : (t : TableState) (object : ℕ) → is_used t object ≡ true
+    → slice_index_or t.objects object None ≡ Some (birth_at t object)
+birth_is t object used = some_is (slice_index_or t.objects object None) t.made_objects used
 
 pub known_at : (m : DescriptionMap) (key : ℕ) → ContainsKey m key → fin.get m.by_key key ≡ Some (description_at m key)
 known_at m key there = some_is (fin.get m.by_key key) no_description there

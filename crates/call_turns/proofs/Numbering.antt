@@ -11,22 +11,22 @@ use Rattle.sequential_object.specs.Numbers.{first_free, number_in}
 use Rattle.sequential_object.specs.Worlds.{World}
 use Rattle.call_turns.specs.Store.{Stands, Stored}
 
-lowest_first : (slots : List (Option ℕ)) (left from node : ℕ) (rest : List (Option ℕ))
+lowest_first : (slots : List (Option ℕ)) (left from object : ℕ) (rest : List (Option ℕ))
     → ((k : ℕ) → slice_index_or slots (from + k) None ≡ get_or rest k None) → length rest ≡ left
-    → lowest_from slots left from ≡ Some node → from + first_free rest ≡ node
+    → lowest_from slots left from ≡ Some object → from + first_free rest ≡ object
 unfolding lowest_from
-lowest_first slots zero from node rest at count is = absurd (none-some node is)
-lowest_first slots (suc left) from node [] at count is = absurd (omega (arith, count))
-lowest_first slots (suc left) from node (None ∷ rest) at count is =
+lowest_first slots zero from object rest at count is = absurd (none-some object is)
+lowest_first slots (suc left) from object [] at count is = absurd (omega (arith, count))
+lowest_first slots (suc left) from object (None ∷ rest) at count is =
     let here : slice_index_or slots from None ≡ None = ap (λ k. slice_index_or slots k None) (still from) ∙ at 0 in
-    sym (still from) ∙ same_Some from node (sym (cond-false _ _ _ (ap is_some here)) ∙ is)
+    sym (still from) ∙ same_Some from object (sym (cond-false _ _ _ (ap is_some here)) ∙ is)
   where
     still : (k : ℕ) → k ≡ k + 0
     still k = omega arith
-lowest_first slots (suc left) from node (Some b ∷ rest) at count is =
+lowest_first slots (suc left) from object (Some b ∷ rest) at count is =
     let here : slice_index_or slots from None ≡ Some b = ap (λ k. slice_index_or slots k None) (still from) ∙ at 0 in
     along from (first_free rest)
-    ∙ lowest_first slots left (from + 1) node rest (λ k. ap (λ n. slice_index_or slots n None) (later from k)
+    ∙ lowest_first slots left (from + 1) object rest (λ k. ap (λ n. slice_index_or slots n None) (later from k)
     ∙ at (suc k)) (less (length rest) left count) (sym (cond-true _ _ _ (ap is_some here)) ∙ is)
   where
     still : (k : ℕ) → k ≡ k + 0
@@ -41,16 +41,16 @@ lowest_first slots (suc left) from node (Some b ∷ rest) at count is =
     less : (a b : ℕ) → suc a ≡ suc b → a ≡ b
     less a b e = omega arith
 
-pub lowest_is_free : (slots : List (Option ℕ)) (left from node : ℕ) → lowest_from slots left from ≡ Some node
-    → slice_index_or slots node None ≡ None
+pub lowest_is_free : (slots : List (Option ℕ)) (left from object : ℕ) → lowest_from slots left from ≡ Some object
+    → slice_index_or slots object None ≡ None
 unfolding lowest_from
-lowest_is_free slots zero from node is = absurd (none-some node is)
-lowest_is_free slots (suc left) from node is =
+lowest_is_free slots zero from object is = absurd (none-some object is)
+lowest_is_free slots (suc left) from object is =
     ⊎_elim
-    (λ (taken : is_some (slice_index_or slots from None) ≡ true). lowest_is_free slots left (from + 1) node
+    (λ (taken : is_some (slice_index_or slots from None) ≡ true). lowest_is_free slots left (from + 1) object
     (sym (cond-true _ _ _ taken) ∙ is))
     (λ (free : is_some (slice_index_or slots from None) ≡ false).
-    ap (λ k. slice_index_or slots k None) (sym (same_Some from node (sym (cond-false _ _ _ free) ∙ is)))
+    ap (λ k. slice_index_or slots k None) (sym (same_Some from object (sym (cond-false _ _ _ free) ∙ is)))
     ∙ is_none (slice_index_or slots from None) free)
     (cases_Bool (is_some (slice_index_or slots from None)))
   where
@@ -58,30 +58,30 @@ lowest_is_free slots (suc left) from node is =
     is_none None e = refl
     is_none (Some x) e = absurd (false≢true (sym e))
 
-pub first_free_is : (t : TableState) (node : ℕ) → length t.objects ≡ limit.OBJECTS → free_object t ≡ Some node
-    → first_free t.objects ≡ node
-first_free_is t node count is =
+pub first_free_is : (t : TableState) (object : ℕ) → length t.objects ≡ limit.OBJECTS → free_object t ≡ Some object
+    → first_free t.objects ≡ object
+first_free_is t object count is =
     sym (from_zero (first_free t.objects))
-    ∙ lowest_first t.objects limit.OBJECTS 0 node t.objects
+    ∙ lowest_first t.objects limit.OBJECTS 0 object t.objects
     (λ k. ap (λ n. slice_index_or t.objects n None) (from_zero k)) count is
   where
     from_zero : (k : ℕ) → 0 + k ≡ k
     from_zero k = omega arith
 
 -- no other slot has this object
-pub number_in_is : (slots : List (Option ℕ)) (node birth : ℕ) → get_or slots node None ≡ Some birth
-    → ((other : ℕ) → get_or slots other None ≡ Some birth → other ≡ node) → number_in slots birth ≡ node
-number_in_is [] node birth at alone = absurd (none-some birth at)
+pub number_in_is : (slots : List (Option ℕ)) (object birth : ℕ) → get_or slots object None ≡ Some birth
+    → ((other : ℕ) → get_or slots other None ≡ Some birth → other ≡ object) → number_in slots birth ≡ object
+number_in_is [] object birth at alone = absurd (none-some birth at)
 number_in_is (Some b ∷ slots) zero birth at alone = cond-true _ _ _ (eq-eqb b birth (same_Some b birth at))
 number_in_is (None ∷ slots) zero birth at alone = absurd (none-some birth at)
-number_in_is (None ∷ slots) (suc node) birth at alone =
-    ap suc (number_in_is slots node birth at (λ other is. less other node (alone (suc other) is)))
+number_in_is (None ∷ slots) (suc object) birth at alone =
+    ap suc (number_in_is slots object birth at (λ other is. less other object (alone (suc other) is)))
   where
     less : (a b : ℕ) → suc a ≡ suc b → a ≡ b
     less a b e = omega arith
-number_in_is (Some b ∷ slots) (suc node) birth at alone =
-    cond-false _ _ _ (ne_eqb b birth (λ e. not_first node (alone 0 (ap (λ x. Some x) e))))
-    ∙ ap suc (number_in_is slots node birth at (λ other is. less other node (alone (suc other) is)))
+number_in_is (Some b ∷ slots) (suc object) birth at alone =
+    cond-false _ _ _ (ne_eqb b birth (λ e. not_first object (alone 0 (ap (λ x. Some x) e))))
+    ∙ ap suc (number_in_is slots object birth at (λ other is. less other object (alone (suc other) is)))
   where
     less : (a b : ℕ) → suc a ≡ suc b → a ≡ b
     less a b e = omega arith

@@ -9,7 +9,7 @@ use Rattle.std.specs.FinMap.{FinMap}
 use Rattle.std.specs.Option.{option_map}
 use Rattle.std.specs.Ordering.{nat_cmp}
 use Rattle.std.specs.Prelude.{slice_index_or}
-use Rattle.sequential_object.specs.Object as object
+use Rattle.sequential_object.specs.Object as sequential
 use Rattle.sequential_object.specs.Object.{State, Content, content_of}
 use Rattle.sequential_object.specs.Numbers.{world_with}
 use Rattle.sequential_object.specs.Worlds.{World}
@@ -41,7 +41,7 @@ IsAlike None other = Unit {0}
 numbers_same : (t u : TableState) → u.objects ≡ t.objects → u.made_objects ≡ t.made_objects
     → u.descriptions.made ≡ t.descriptions.made → NumbersStay t u
 numbers_same t u objects made descriptions = record {
-  numbers = λ node birth is. inl (ap (λ os. slice_index_or os node None) (sym objects) ∙ is);
+  numbers = λ object birth is. inl (ap (λ os. slice_index_or os object None) (sym objects) ∙ is);
   objects = omega (arith, made);
   born = inl made;
   descriptions = omega (arith, descriptions);
@@ -71,7 +71,7 @@ module _ (law : TableFollows) (h : Stored) (w : World) (st : Stands h w) where
     numbers = numbers_same h.table h.table refl refl refl;
   }
 
-  objects_stay : (offset birth : ℕ) (d : Option object.Description)
+  objects_stay : (offset birth : ℕ) (d : Option sequential.Description)
       → (moved_to w.object (Some offset) (Some birth) d).objects ≡ w.object.objects
   objects_stay offset birth (Some d) = refl
   objects_stay offset birth None = refl
@@ -94,14 +94,14 @@ module _ (law : TableFollows) (h : Stored) (w : World) (st : Stands h w) where
         bodies = refl;
       }
 
-  module _ (node : ℕ) (key offset : Option ℕ) (used : is_used h.table node ≡ true)
+  module _ (object : ℕ) (key offset : Option ℕ) (used : is_used h.table object ≡ true)
       (long : length h.bodies ≡ limit.OBJECTS)
       (m : Moves key offset) where
     abbrev moved : Stored
     moved = moved_if h key offset
 
-    birth_of_node : slice_index_or h.table.objects node None ≡ Some (birth_at h.table node)
-    birth_of_node = birth_is h.table node used
+    birth_here : slice_index_or h.table.objects object None ≡ Some (birth_at h.table object)
+    birth_here = birth_is h.table object used
 
     -- what was held before
     was : (k b : ℕ) → slice_index_or moved.table.objects k None ≡ Some b → (c : Content)
@@ -115,71 +115,71 @@ module _ (law : TableFollows) (h : Stored) (w : World) (st : Stands h w) where
     left_alone : Stands moved (world_with w (moved_state key offset))
     left_alone = stands_by h w st moved.table (moved_state key offset) m.left moved.bodies was
 
-    module _ (content : Content) (alike : HasEndsOf content (content_of w.object (birth_at h.table node))) where
+    module _ (content : Content) (alike : HasEndsOf content (content_of w.object (birth_at h.table object))) where
       abbrev after : State
-      after = object.with_content (moved_state key offset) (birth_at h.table node) content
+      after = sequential.with_content (moved_state key offset) (birth_at h.table object) content
 
-      there : is_some (fin.get (moved_state key offset).objects (birth_at h.table node)) ≡ true
-      there = ap (λ (o : FinMap nat_cmp Content). is_some (fin.get o (birth_at h.table node))) m.objects
-          ∙ st.shows.objects node (birth_at h.table node) birth_of_node
+      there : is_some (fin.get (moved_state key offset).objects (birth_at h.table object)) ≡ true
+      there = ap (λ (o : FinMap nat_cmp Content). is_some (fin.get o (birth_at h.table object))) m.objects
+          ∙ st.shows.objects object (birth_at h.table object) birth_here
 
       left : Leaves h.table moved.table after
       left = record {
         sound = m.left.sound;
         described = m.left.described;
         shows =
-            law.contents moved.table (moved_state key offset) (birth_at h.table node) content m.left.shows there
+            law.contents moved.table (moved_state key offset) (birth_at h.table object) content m.left.shows there
             (subst (λ (o : FinMap nat_cmp Content). HasEndsOf content
-            (unwrap_or (fin.get o (birth_at h.table node)) (object.File []))) (sym m.objects) alike);
+            (unwrap_or (fin.get o (birth_at h.table object)) (sequential.File []))) (sym m.objects) alike);
         numbers = m.left.numbers;
       }
 
-      inside : node < length moved.bodies
+      inside : object < length moved.bodies
       inside =
-          let below : node < length h.table.objects = place_within h.table.objects node (birth_at h.table node)
-          birth_of_node in
+          let below : object < length h.table.objects = place_within h.table.objects object (birth_at h.table object)
+          birth_here in
           let slots : length h.table.objects ≡ 48 = st.sound.object_numbers in
-          subst (λ (bodies : List Kept). node < length bodies) (sym m.bodies) (omega (arith, below, slots, long))
+          subst (λ (bodies : List Kept). object < length bodies) (sym m.bodies) (omega (arith, below, slots, long))
 
       holds_at : (k b : ℕ) → slice_index_or moved.table.objects k None ≡ Some b → (c : Content)
           → fin.get after.objects b ≡ Some c
-          → c ≡ kept_as c (slice_index_or (acting.holding moved node content).bodies k first_kept)
+          → c ≡ kept_as c (slice_index_or (acting.holding moved object content).bodies k first_kept)
       holds_at k b is c got =
-          elim (cases_eq k node) [
+          elim (cases_eq k object) [
             | inl at ↦ (
-                let had : slice_index_or h.table.objects node None ≡ Some b =
+                let had : slice_index_or h.table.objects object None ≡ Some b =
                 ap (λ (i : ℕ). slice_index_or h.table.objects i None) (sym at)
                 ∙ ap (λ os. slice_index_or os k None) (sym m.numbers) ∙ is in
-                let one : b ≡ birth_at h.table node = same_Some _ _ (sym had ∙ birth_of_node) in
+                let one : b ≡ birth_at h.table object = same_Some _ _ (sym had ∙ birth_here) in
                 let same : content ≡ c = same_Some _ _
-                (sym (get-insert_same (moved_state key offset).objects (birth_at h.table node) content)
+                (sym (get-insert_same (moved_state key offset).objects (birth_at h.table object) content)
                 ∙ ap (fin.get after.objects) (sym one) ∙ got) in
                 subst (λ (x : Content). x ≡ kept_as x
-                (slice_index_or (acting.holding moved node content).bodies k first_kept)) same
-                (kept_own content (kept_at moved node)
+                (slice_index_or (acting.holding moved object content).bodies k first_kept)) same
+                (kept_own content (kept_at moved object)
                 ∙ ap (kept_as content) (sym (ap
-                (λ (i : ℕ). slice_index_or (acting.holding moved node content).bodies i first_kept) at
-                ∙ get_or-set_same moved.bodies node (keeping content (kept_at moved node)) first_kept inside))))
+                (λ (i : ℕ). slice_index_or (acting.holding moved object content).bodies i first_kept) at
+                ∙ get_or-set_same moved.bodies object (keeping content (kept_at moved object)) first_kept inside))))
             | inr apart ↦ (
                 let had : slice_index_or h.table.objects k None ≡ Some b =
                 ap (λ os. slice_index_or os k None) (sym m.numbers) ∙ is in
-                let other : b ≢ birth_at h.table node =
-                λ same. apart (st.sound.distinct k node b had
-                (birth_of_node ∙ ap (λ (n : ℕ). Some n) (sym same))) in
-                was k b is c (sym (get-insert_other (moved_state key offset).objects (birth_at h.table node) content b
+                let other : b ≢ birth_at h.table object =
+                λ same. apart (st.sound.distinct k object b had
+                (birth_here ∙ ap (λ (n : ℕ). Some n) (sym same))) in
+                was k b is c (sym (get-insert_other (moved_state key offset).objects (birth_at h.table object) content b
                 other) ∙ got)
-                ∙ ap (kept_as c) (sym (get_or-set_other moved.bodies node k (keeping content (kept_at moved node))
+                ∙ ap (kept_as c) (sym (get_or-set_other moved.bodies object k (keeping content (kept_at moved object))
                 first_kept apart)))
           ]
 
-      left_holding : Stands (acting.holding moved node content) (world_with w after)
-      left_holding = stands_by h w st moved.table after left (acting.holding moved node content).bodies holds_at
+      left_holding : Stands (acting.holding moved object content) (world_with w after)
+      left_holding = stands_by h w st moved.table after left (acting.holding moved object content).bodies holds_at
 
-  pub puts : (node : ℕ) (key offset : Option ℕ) (content : Option Content) → is_used h.table node ≡ true
+  pub puts : (object : ℕ) (key offset : Option ℕ) (content : Option Content) → is_used h.table object ≡ true
       → length h.bodies ≡ limit.OBJECTS
-      → IsKnown h.table key → IsAlike content (content_of w.object (birth_at h.table node))
-      → Stands (holding_if (moved_if h key offset) node content)
-      (world_with w (holding (moved_state key offset) (birth_at h.table node) content))
-  puts node key offset None used long known alike = left_alone node key offset used long (moves key offset known)
-  puts node key offset (Some content) used long known alike =
-      left_holding node key offset used long (moves key offset known) content alike
+      → IsKnown h.table key → IsAlike content (content_of w.object (birth_at h.table object))
+      → Stands (holding_if (moved_if h key offset) object content)
+      (world_with w (holding (moved_state key offset) (birth_at h.table object) content))
+  puts object key offset None used long known alike = left_alone object key offset used long (moves key offset known)
+  puts object key offset (Some content) used long known alike =
+      left_holding object key offset used long (moves key offset known) content alike

@@ -33,29 +33,29 @@ use Rattle.call_turns.specs.declared.patience.Locking.{Locking}
 
 -- ## The number of an object
 
-pub used_number : (h : Stored) (w : World) (node : ℕ) → Stands h w → is_used h.table node ≡ true
-    → number_of w (birth_at h.table node) ≡ node
-used_number h w node stands used =
-    let birth = birth_at h.table node in
-    let slot = birth_is h.table node used in
-    cond-true _ _ _ (stands.shows.objects node birth slot)
+pub used_number : (h : Stored) (w : World) (object : ℕ) → Stands h w → is_used h.table object ≡ true
+    → number_of w (birth_at h.table object) ≡ object
+used_number h w object stands used =
+    let birth = birth_at h.table object in
+    let slot = birth_is h.table object used in
+    cond-true _ _ _ (stands.shows.objects object birth slot)
     ∙ ap (λ (slots : List (Option ℕ)). number_in slots birth) stands.numbers
-    ∙ number_in_is h.table.objects node birth slot (λ other is. stands.sound.distinct other node birth is slot)
+    ∙ number_in_is h.table.objects object birth slot (λ other is. stands.sound.distinct other object birth is slot)
 
-free_number : (h : Stored) (w : World) (node : ℕ) → Stands h w → free_object h.table ≡ Some node
-    → number_of w (birth_at h.table node) ≡ node
-free_number h w node stands free =
-    let birth : birth_at h.table node ≡ h.table.made_objects = ap (λ (o : Option ℕ). unwrap_or o h.table.made_objects)
-    (lowest_is_free h.table.objects limit.OBJECTS 0 node free) in
+free_number : (h : Stored) (w : World) (object : ℕ) → Stands h w → free_object h.table ≡ Some object
+    → number_of w (birth_at h.table object) ≡ object
+free_number h w object stands free =
+    let birth : birth_at h.table object ≡ h.table.made_objects = ap (λ (o : Option ℕ). unwrap_or o h.table.made_objects)
+    (lowest_is_free h.table.objects limit.OBJECTS 0 object free) in
     ap (number_of w) birth
     ∙ cond-false _ _ _ (next_is_new h w stands)
     ∙ ap first_free stands.numbers
-    ∙ first_free_is h.table node stands.sound.object_numbers free
+    ∙ first_free_is h.table object stands.sound.object_numbers free
 
-stands_number : (h : Stored) (w : World) (node : ℕ) → Stands h w → IsKnownNumber h.table node
-    → number_of w (birth_at h.table node) ≡ node
-stands_number h w node stands known = ⊎_elim (λ used. used_number h w node stands used)
-    (λ free. free_number h w node stands free) known.1
+stands_number : (h : Stored) (w : World) (object : ℕ) → Stands h w → IsKnownNumber h.table object
+    → number_of w (birth_at h.table object) ≡ object
+stands_number h w object stands known = ⊎_elim (λ used. used_number h w object stands used)
+    (λ free. free_number h w object stands free) known.1
 
 module _ (law : TableFollows) (h : Stored) (w : World) (stands : Stands h w) (c : Call) (carried : Carried) where
   follows : Follows h.table c carried.moved
@@ -102,6 +102,6 @@ stands_first law =
             distinct = λ key other d e is its same. nothing _ d (fin.get-empty nat_cmp key) is;
           };
       shows = law.first.1;
-      contents = λ node birth is content got. nothing _ birth (slot_none limit.OBJECTS node) is;
+      contents = λ object birth is content got. nothing _ birth (slot_none limit.OBJECTS object) is;
       numbers = refl;
     }

@@ -129,8 +129,8 @@ module _ (h : Stored) (w : World) (st : Stands h w) (u : TableState) (after : St
   each_kept b k None had = refl
   each_kept b k (Some x) had = cond-true _ _ _ (m.shows.objects k x (b.others k x had))
 
-  slot_born : (b : IsBorn h.table u) (k : ℕ) → k ≢ b.node → (o p : Option ℕ) → slice_index_or h.table.objects k None ≡ o
-      → slice_index_or u.objects k None ≡ p → o ≡ p
+  slot_born : (b : IsBorn h.table u) (k : ℕ) → k ≢ b.node → (o p : Option ℕ)
+      → slice_index_or h.table.objects k None ≡ o → slice_index_or u.objects k None ≡ p → o ≡ p
   slot_born b k apart (Some x) p had is = sym (b.others k x had) ∙ is
   slot_born b k apart None None had is = refl
   slot_born b k apart None (Some c) had is =

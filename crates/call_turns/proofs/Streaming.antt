@@ -27,37 +27,38 @@ use Rattle.call_turns.specs.Patience.{end_of, stopped_ending}
 use Rattle.call_turns.specs.Store.{Stored, kept_at}
 
 -- what is put back is what was there
-put_back : (bodies : List Kept) (node : ℕ) (content : Content) → node < length bodies
-    → keeping content (slice_index_or bodies node first_kept) ≡ slice_index_or bodies node first_kept
-    → slice_set bodies node (keeping content (slice_index_or bodies node first_kept)) ≡ bodies
-put_back bodies node content inside same = ap (slice_set bodies node) same ∙ set_same bodies node first_kept inside
+put_back : (bodies : List Kept) (object : ℕ) (content : Content) → object < length bodies
+    → keeping content (slice_index_or bodies object first_kept) ≡ slice_index_or bodies object first_kept
+    → slice_set bodies object (keeping content (slice_index_or bodies object first_kept)) ≡ bodies
+put_back bodies object content inside same =
+    ap (slice_set bodies object) same ∙ set_same bodies object first_kept inside
 
-module _ (h : Stored) (node : ℕ) (inside : node < length h.bodies) where
-  pub pair_kept : holding h node (Pair (kept_at h node).pair) ≡ h
+module _ (h : Stored) (object : ℕ) (inside : object < length h.bodies) where
+  pub pair_kept : holding h object (Pair (kept_at h object).pair) ≡ h
   pair_kept = ap (λ (bodies : List Kept). record h { bodies = bodies })
-      (put_back h.bodies node (Pair (kept_at h node).pair) inside refl)
+      (put_back h.bodies object (Pair (kept_at h object).pair) inside refl)
 
-  pub pipe_kept : holding h node (Pipe (kept_at h node).pipe) ≡ h
+  pub pipe_kept : holding h object (Pipe (kept_at h object).pipe) ≡ h
   pipe_kept = ap (λ (bodies : List Kept). record h { bodies = bodies })
-      (put_back h.bodies node (Pipe (kept_at h node).pipe) inside refl)
+      (put_back h.bodies object (Pipe (kept_at h object).pipe) inside refl)
 
   pub written_pair : (to : Seen) (side : Side) (count : ℕ) (w : Writing) (e : ActEnd) (new : Stored)
       → e ≡ ending_of_write (write_answer count w) to.nonblock
-      → new ≡ holding h node (Pair (left_by_write (kept_at h node).pair side w))
-      → Leaves (has_written to (λ left. Pair (with_waiting (kept_at h node).pair (peer_of side) left)) count w) h node
-      (Some to.key) e new
+      → new ≡ holding h object (Pair (left_by_write (kept_at h object).pair side w))
+      → Leaves (has_written to (λ left. Pair (with_waiting (kept_at h object).pair (peer_of side) left)) count w) h
+      object (Some to.key) e new
   written_pair to side count (stream.Writes left) e new told is = (told, is)
   written_pair to side count stream.Breaks e new told is = (told, is ∙ pair_kept)
   written_pair to side count stream.NoRoom e new told is = by_flag to.nonblock told
     where
       by_flag : (b : Bool) → e ≡ stopped_ending b
-          → Leaves (if b then replies (reply.Fail EAGAIN) else concludes (Blocks nothing_moved)) h node (Some to.key) e
-          new
+          → Leaves (if b then replies (reply.Fail EAGAIN) else concludes (Blocks nothing_moved)) h object (Some to.key)
+          e new
       by_flag true ends = (ends, is ∙ pair_kept)
       by_flag false ends = (ends, is ∙ pair_kept)
 
   abbrev p : PairState
-  p = (kept_at h node).pair
+  p = (kept_at h object).pair
 
   -- a reading of a half, and the bytes that it put into their place
   reading : Half → ℕ → Bool → Bool → Bool → Reading
@@ -66,12 +67,12 @@ module _ (h : Stored) (node : ℕ) (inside : node < length h.bodies) where
       stream.Reads (take n half.waiting) (drop n half.waiting)
 
   pub read_of_pair : (from : Seen) (side : Side) (place : List ℕ) (more : Bool) (e : ActEnd) (new : Stored)
-      → let p = (kept_at h node).pair in
+      → let p = (kept_at h object).pair in
       let half : Half = half_at p side in
       let r = if half.reading_shut then stream.Ends else stream_read half.waiting (length place) more in
       e ≡ ending_of_read (read_answer r) (read_into half place) from.nonblock
-      → new ≡ holding h node (Pair (left_by_read p side r))
-      → Leaves (has_read from (λ left. Pair (with_waiting p side left)) r) h node (Some from.key) e new
+      → new ≡ holding h object (Pair (left_by_read p side r))
+      → Leaves (has_read from (λ left. Pair (with_waiting p side left)) r) h object (Some from.key) e new
   unfolding reading
   read_of_pair from side place more e new told is =
       by_tests (half_at p side).reading_shut (length (half_at p side).waiting == 0) more told is
@@ -80,14 +81,14 @@ module _ (h : Stored) (node : ℕ) (inside : node < length h.bodies) where
           → e ≡ ending_of_read (read_answer (reading (half_at p side) (length place) shut none more)) (if shut
           then place else take (length place) (half_at p side).waiting
           ++ drop (length (half_at p side).waiting) place) from.nonblock
-          → new ≡ holding h node (Pair (left_by_read p side (reading (half_at p side) (length place) shut none more)))
+          → new ≡ holding h object (Pair (left_by_read p side (reading (half_at p side) (length place) shut none more)))
           → Leaves (has_read from (λ left. Pair (with_waiting p side left))
-          (reading (half_at p side) (length place) shut none more)) h node (Some from.key) e new
+          (reading (half_at p side) (length place) shut none more)) h object (Some from.key) e new
       by_tests true none more ends left = (ends, left ∙ pair_kept)
       by_tests false true true ends left = by_flag from.nonblock ends
         where
           by_flag : (b : Bool) → e ≡ stopped_ending b
-              → Leaves (if b then replies (reply.Fail EAGAIN) else concludes (Blocks nothing_moved)) h node
+              → Leaves (if b then replies (reply.Fail EAGAIN) else concludes (Blocks nothing_moved)) h object
               (Some from.key) e new
           by_flag true stops = (stops, left ∙ pair_kept)
           by_flag false stops = (stops, left ∙ pair_kept)
@@ -101,8 +102,8 @@ module _ (h : Stored) (node : ℕ) (inside : node < length h.bodies) where
 
   pub written_pipe : (to : Seen) (all before now : ℕ) (w : Writing) (e : ActEnd) (new : Stored)
       → e ≡ ending_of_pipe to all before (write_answer now w)
-      → new ≡ holding h node (Pipe (pipes.left_by_write (kept_at h node).pipe w))
-      → Leaves (pipe_written to all before now w) h node (Some to.key) e new
+      → new ≡ holding h object (Pipe (pipes.left_by_write (kept_at h object).pipe w))
+      → Leaves (pipe_written to all before now w) h object (Some to.key) e new
   written_pipe to all before now (stream.Writes left) e new told is =
       (told ∙ sym (ends_total (nat_le all (before + now))), is)
     where
@@ -119,7 +120,7 @@ module _ (h : Stored) (node : ℕ) (inside : node < length h.bodies) where
           else end_of (if nonblock then Replies (reply.Count before) else Blocks (moved_by to.birth before)))
           → Leaves (if first then (if nonblock then replies (reply.Fail EAGAIN) else concludes (Blocks nothing_moved))
           else concludes (if nonblock then Replies (reply.Count before) else Blocks (moved_by to.birth before)))
-          h node (Some to.key) e new
+          h object (Some to.key) e new
       by_tests true true ends = (ends, is ∙ pipe_kept)
       by_tests true false ends = (ends, is ∙ pipe_kept)
       by_tests false true ends = (ends, is ∙ pipe_kept)

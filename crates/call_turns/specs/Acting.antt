@@ -43,8 +43,8 @@ moved h key n =
 
 -- an object holds this from now on
 abbrev pub holding : Stored → ℕ → Content → Stored
-holding h node content =
-    record h { bodies = slice_set h.bodies node (keeping content (kept_at h node)) }
+holding h object content =
+    record h { bodies = slice_set h.bodies object (keeping content (kept_at h object)) }
 
 -- the offset is moved where the act has a description and a new offset for it
 abbrev pub moved_if : Stored → Option ℕ → Option ℕ → Stored
@@ -53,17 +53,17 @@ moved_if h key n = h
 
 -- an object holds a new content, where the act gave it one
 abbrev pub holding_if : Stored → ℕ → Option Content → Stored
-holding_if h node (Some content) = holding h node content
-holding_if h node None = h
+holding_if h object (Some content) = holding h object content
+holding_if h object None = h
 
 -- what an act leaves, of its object and of the description under this key
 abbrev pub left_by : Stored → ℕ → Option ℕ → Acted → Stored
-left_by h node key done = holding_if (moved_if h key done.offset) node done.content
+left_by h object key done = holding_if (moved_if h key done.offset) object done.content
 
 -- it ended so, and left this
 abbrev pub Leaves : Acted → Stored → ℕ → Option ℕ → ActEnd → Stored → Type 0
-Leaves done old node key e new =
-    (e ≡ end_of done.ending) × (new ≡ left_by old node key done)
+Leaves done old object key e new =
+    (e ≡ end_of done.ending) × (new ≡ left_by old object key done)
 
 -- the offset of the description under this key
 abbrev pub offset_of_key : Stored → ℕ → ℕ
@@ -92,8 +92,8 @@ held_for a k = File k.file
 
 -- how an act on an object ends here
 abbrev pub acts_at : Stored → ℕ → Act → Call → Acted
-acts_at h node a c =
-    acted (is_open h.table node) a c (held_for a (kept_at h node)) (stands_at h (key_of a))
+acts_at h object a c =
+    acted (is_open h.table object) a c (held_for a (kept_at h object)) (stands_at h (key_of a))
 
 -- an act that reads or writes its object: the description whose offset it reads or moves is there,
 -- and it reads no more bytes than this
@@ -110,8 +110,8 @@ IsReady t most a = ⊥
 
 -- a file that may be cut to nothing
 abbrev pub cut_to : Stored → ℕ → Bool → Stored
-cut_to h node true = holding h node (File [])
-cut_to h node false = h
+cut_to h object true = holding h object (File [])
+cut_to h object false = h
 
 -- ## Streams, by what their bodies answer
 
@@ -147,8 +147,8 @@ ending_of_pipe to all before _ =
 
 -- a new object has nothing in it, whatever was under its number before
 abbrev pub emptied : List Kept → ℕ → Content → List Kept
-emptied bodies node content =
-    slice_set bodies node (keeping content (slice_index_or bodies node first_kept))
+emptied bodies object content =
+    slice_set bodies object (keeping content (slice_index_or bodies object first_kept))
 
 -- the bodies after a change: the object that it makes, if any, has nothing in it
 abbrev pub cleared : List Kept → Change → List Kept

@@ -49,20 +49,20 @@ pub record Stored : Type 0 where
 
 -- what is under this number
 abbrev pub kept_at : Stored → ℕ → Kept
-kept_at h node = slice_index_or h.bodies node first_kept
+kept_at h object = slice_index_or h.bodies object first_kept
 
 -- the bytes of the file with this number
 abbrev pub body_at : Stored → ℕ → List ℕ
-body_at h node = (kept_at h node).file
+body_at h object = (kept_at h object).file
 
 -- they stand for the sequential object, its contents too, and for the numbers of its objects
 pub record Stands (h : Stored) (w : World) : Type 0 where
   pub sound : IsSound h.table
   pub described : AreSound h.table.descriptions
   pub shows : shown.Shows h.table w.object
-  pub contents : (node birth : ℕ) → slice_index_or h.table.objects node None ≡ Some birth
+  pub contents : (object birth : ℕ) → slice_index_or h.table.objects object None ≡ Some birth
       → (content : Content) → map.get w.object.objects birth ≡ Some content
-      → content ≡ kept_as content (kept_at h node)
+      → content ≡ kept_as content (kept_at h object)
   pub numbers : w.numbers ≡ h.table.objects
 
 -- what was decided of a call that takes the lock of an object

@@ -21,45 +21,45 @@ use sequential_object::{ActEnd, Seen};
 // What calls do with the file whose lock they took.
 impl Store {
     // POSIX.1-2017, `read` of a file, as many bytes as there is room for.
-    pub(crate) fn read_file(&mut self, node: usize, from: Seen, into: Vec<u8>) -> ActEnd
-        requires inside { node < limit.OBJECTS }
+    pub(crate) fn read_file(&mut self, object: usize, from: Seen, into: Vec<u8>) -> ActEnd
+        requires inside { object < limit.OBJECTS }
         requires known { ContainsKey self.old.table.descriptions from.key }
-        ensures acts { Leaves (read_file (body_at self.old node) (offset_of_key self.old from.key)
-            (length into.items)) self.old node (Some from.key) result self.new }
+        ensures acts { Leaves (read_file (body_at self.old object) (offset_of_key self.old from.key)
+            (length into.items)) self.old object (Some from.key) result self.new }
         ensures few { act_bytes result ≤ length into.items }
     {
         let offset = self.table.offset(from.key);
-        let bytes = file_bytes(&self.bodies[node].file, offset, into);
+        let bytes = file_bytes(&self.bodies[object].file, offset, into);
         self.table
             .set_offset(from.key, offset + bytes.as_slice().len() as u64);
         ActEnd::Reply(Reply::Data(bytes))
     }
 
     // POSIX.1-2017, `pread`, of as many bytes as there is room for.
-    pub(crate) fn pread(&self, node: usize, position: u64, into: Vec<u8>) -> Reply
-        requires { node < limit.OBJECTS }
-        ensures { result ≡ Data (bytes_at (body_at self.now node) position (length into.items)) }
+    pub(crate) fn pread(&self, object: usize, position: u64, into: Vec<u8>) -> Reply
+        requires { object < limit.OBJECTS }
+        ensures { result ≡ Data (bytes_at (body_at self.now object) position (length into.items)) }
     {
-        Reply::Data(file_bytes(&self.bodies[node].file, position, into))
+        Reply::Data(file_bytes(&self.bodies[object].file, position, into))
     }
 
     // POSIX.1-2017, `write` to a file, which of no bytes does nothing.
-    pub(crate) fn write_file(&mut self, node: usize, to: Seen, bytes: &[u8]) -> ActEnd
-        requires inside { node < limit.OBJECTS }
+    pub(crate) fn write_file(&mut self, object: usize, to: Seen, bytes: &[u8]) -> ActEnd
+        requires inside { object < limit.OBJECTS }
         requires known { ContainsKey self.old.table.descriptions to.key }
-        ensures acts { Leaves (write_file to bytes.now (body_at self.old node)
-            (offset_of_key self.old to.key)) self.old node (Some to.key) result self.new }
+        ensures acts { Leaves (write_file to bytes.now (body_at self.old object)
+            (offset_of_key self.old to.key)) self.old object (Some to.key) result self.new }
         ensures few { act_bytes result ≡ 0 }
     {
         if bytes.is_empty() {
             return ActEnd::Reply(Reply::Count(0));
         }
         let start = if to.append {
-            self.bodies[node].file.len()
+            self.bodies[object].file.len()
         } else {
             self.table.offset(to.key)
         };
-        match self.bodies[node].file.write_at(start, bytes) {
+        match self.bodies[object].file.write_at(start, bytes) {
             Ok(count) => {
                 self.table.set_offset(to.key, start + count as u64);
                 ActEnd::Reply(Reply::Count(count as u64))
@@ -69,34 +69,34 @@ impl Store {
     }
 
     // POSIX.1-2017, `pwrite`.
-    pub(crate) fn pwrite(&mut self, node: usize, position: u64, bytes: &[u8]) -> ActEnd
-        requires inside { node < limit.OBJECTS }
-        ensures acts { Leaves (write_at bytes.now (body_at self.old node) position)
-            self.old node None result self.new }
+    pub(crate) fn pwrite(&mut self, object: usize, position: u64, bytes: &[u8]) -> ActEnd
+        requires inside { object < limit.OBJECTS }
+        ensures acts { Leaves (write_at bytes.now (body_at self.old object) position)
+            self.old object None result self.new }
         ensures few { act_bytes result ≡ 0 }
     {
         if bytes.is_empty() {
             return ActEnd::Reply(Reply::Count(0));
         }
-        match self.bodies[node].file.write_at(position, bytes) {
+        match self.bodies[object].file.write_at(position, bytes) {
             Ok(count) => ActEnd::Reply(Reply::Count(count as u64)),
             Err(error) => ActEnd::Reply(Reply::Fail(error)),
         }
     }
 
     // POSIX.1-2017, `lseek`.
-    pub(crate) fn lseek(&mut self, node: usize, at: Seen, offset: i64, whence: Whence) -> ActEnd
-        requires inside { node < limit.OBJECTS }
+    pub(crate) fn lseek(&mut self, object: usize, at: Seen, offset: i64, whence: Whence) -> ActEnd
+        requires inside { object < limit.OBJECTS }
         requires known { ContainsKey self.old.table.descriptions at.key }
         ensures acts { Leaves (sought (offset_of
-            (pos (base_of whence (offset_of_key self.old at.key) (length (body_at self.old node)))
-            +ℤ offset))) self.old node (Some at.key) result self.new }
+            (pos (base_of whence (offset_of_key self.old at.key) (length (body_at self.old object)))
+            +ℤ offset))) self.old object (Some at.key) result self.new }
         ensures few { act_bytes result ≡ 0 }
     {
         let base = match whence {
             Whence::Set => 0,
             Whence::Current => self.table.offset(at.key),
-            Whence::End => self.bodies[node].file.len(),
+            Whence::End => self.bodies[object].file.len(),
         };
         match sought(base, offset) {
             Ok(to) => {
@@ -108,36 +108,36 @@ impl Store {
     }
 
     // POSIX.1-2017, `ftruncate`.
-    pub(crate) fn ftruncate(&mut self, call: &Call, node: usize, size: usize) -> ActEnd
-        requires inside { node < limit.OBJECTS }
+    pub(crate) fn ftruncate(&mut self, call: &Call, object: usize, size: usize) -> ActEnd
+        requires inside { object < limit.OBJECTS }
         requires fits { size ≤ limit.FILE_BYTES }
-        ensures acts { Leaves (acts_at self.old node (act.Ftruncate size) call.now)
-            self.old node None result self.new }
+        ensures acts { Leaves (acts_at self.old object (act.Ftruncate size) call.now)
+            self.old object None result self.new }
         ensures few { act_bytes result ≡ 0 }
     {
-        self.bodies[node].file.set_len(size as u64);
+        self.bodies[object].file.set_len(size as u64);
         ActEnd::Reply(Reply::Done)
     }
 
     // POSIX.1-2017, `fstat`, of a file with this many names.
-    pub(crate) fn fstat(&self, node: usize, links: usize) -> Reply
-        requires { node < limit.OBJECTS }
-        ensures { result ≡ Stat File (length (body_at self.now node)) links }
+    pub(crate) fn fstat(&self, object: usize, links: usize) -> Reply
+        requires { object < limit.OBJECTS }
+        ensures { result ≡ Stat File (length (body_at self.now object)) links }
     {
         Reply::Stat {
             kind: ObjectKind::File,
-            number: self.bodies[node].file.len(),
+            number: self.bodies[object].file.len(),
             links: links as u64,
         }
     }
 
     // Leaves a file without bytes, if it is to be cut.
-    pub(crate) fn cut(&mut self, node: usize, cut: bool)
-        requires { node < limit.OBJECTS }
-        ensures { self.new ≡ cut_to self.old node cut }
+    pub(crate) fn cut(&mut self, object: usize, cut: bool)
+        requires { object < limit.OBJECTS }
+        ensures { self.new ≡ cut_to self.old object cut }
     {
         if cut {
-            self.bodies[node].file.clear();
+            self.bodies[object].file.clear();
         }
     }
 }

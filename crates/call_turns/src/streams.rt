@@ -29,66 +29,66 @@ use sequential_object::{ActEnd, Seen};
 // A read and a write, and what calls do with a pipe or a pair of sockets, whose lock they took.
 impl Store {
     // POSIX.1-2017, `read`, of as many bytes as there is room for.
-    pub(crate) fn read(&mut self, call: &Call, node: usize, from: Seen, into: Vec<u8>) -> ActEnd
-        requires inside { node < limit.OBJECTS }
+    pub(crate) fn read(&mut self, call: &Call, object: usize, from: Seen, into: Vec<u8>) -> ActEnd
+        requires inside { object < limit.OBJECTS }
         requires known { ContainsKey self.old.table.descriptions from.key }
-        ensures acts { Leaves (acts_at self.old node (act.Read from (length into.items)) call.now)
-            self.old node (Some from.key) result self.new }
+        ensures acts { Leaves (acts_at self.old object (act.Read from (length into.items)) call.now)
+            self.old object (Some from.key) result self.new }
         ensures few { act_bytes result ≤ length into.items }
     {
         match from.end {
-            End::Only => self.read_file(node, from, into),
-            End::Read | End::Write => self.read_pipe(node, from, into),
-            End::Socket(side) => self.read_pair(node, from, side, into),
+            End::Only => self.read_file(object, from, into),
+            End::Read | End::Write => self.read_pipe(object, from, into),
+            End::Socket(side) => self.read_pair(object, from, side, into),
             // A door is read outside.
             End::Door(_) => ActEnd::Reply(Reply::Done),
         }
     }
 
-    fn read_pipe(&mut self, node: usize, from: Seen, into: Vec<u8>) -> ActEnd
-        requires inside { node < limit.OBJECTS }
+    fn read_pipe(&mut self, object: usize, from: Seen, into: Vec<u8>) -> ActEnd
+        requires inside { object < limit.OBJECTS }
         ensures acts { Leaves (has_read from (λ left. Pipe left)
-            (stream_read (kept_at self.old node).pipe (length into.items)
-            (is_open self.old.table node part.Write)))
-            self.old node (Some from.key) result self.new }
+            (stream_read (kept_at self.old object).pipe (length into.items)
+            (is_open self.old.table object part.Write)))
+            self.old object (Some from.key) result self.new }
         ensures few { act_bytes result ≤ length into.items }
     {
         let mut bytes = into;
-        let writers = self.is_open(node, End::Write);
-        let answer = self.bodies[node].pipe.take(bytes.as_mut_slice(), writers);
+        let writers = self.is_open(object, End::Write);
+        let answer = self.bodies[object].pipe.take(bytes.as_mut_slice(), writers);
         read_ending(answer, bytes, from.nonblock)
     }
 
-    fn read_pair(&mut self, node: usize, from: Seen, side: Side, into: Vec<u8>) -> ActEnd
-        requires inside { node < limit.OBJECTS }
-        ensures acts { let pair = (kept_at self.old node).pair in
+    fn read_pair(&mut self, object: usize, from: Seen, side: Side, into: Vec<u8>) -> ActEnd
+        requires inside { object < limit.OBJECTS }
+        ensures acts { let pair = (kept_at self.old object).pair in
             Leaves (has_read from (λ left. Pair (with_waiting pair side left))
             (pair_read pair side (length into.items)
-            (is_open self.old.table node (part.Socket (peer_of side)))))
-            self.old node (Some from.key) result self.new }
+            (is_open self.old.table object (part.Socket (peer_of side)))))
+            self.old object (Some from.key) result self.new }
         ensures few { act_bytes result ≤ length into.items }
     {
         // What holds of every store holds of this one: each number has its body.
         let _ = &self.bodies;
         let mut bytes = into;
-        let peer_open = self.is_open(node, End::Socket(side.peer()));
-        let answer = self.take_pair(node, side, bytes.as_mut_slice(), peer_open);
+        let peer_open = self.is_open(object, End::Socket(side.peer()));
+        let answer = self.take_pair(object, side, bytes.as_mut_slice(), peer_open);
         read_ending(answer, bytes, from.nonblock)
     }
 
     // POSIX.1-2017, `write`, of which so many bytes went before.
-    pub(crate) fn write(&mut self, node: usize, to: Seen, bytes: &[u8], before: u64) -> ActEnd
-        requires inside { node < limit.OBJECTS }
+    pub(crate) fn write(&mut self, object: usize, to: Seen, bytes: &[u8], before: u64) -> ActEnd
+        requires inside { object < limit.OBJECTS }
         requires known { ContainsKey self.old.table.descriptions to.key }
-        ensures acts { Leaves (write_acted (is_open self.old.table node) to bytes.now before
-            (held_by to.«end» (kept_at self.old node)) (offset_of_key self.old to.key))
-            self.old node (Some to.key) result self.new }
+        ensures acts { Leaves (write_acted (is_open self.old.table object) to bytes.now before
+            (held_by to.«end» (kept_at self.old object)) (offset_of_key self.old to.key))
+            self.old object (Some to.key) result self.new }
         ensures few { act_bytes result ≡ 0 }
     {
         match to.end {
-            End::Only => self.write_file(node, to, bytes),
-            End::Read | End::Write => self.write_pipe(node, to, bytes, before),
-            End::Socket(side) => self.write_pair(node, to, side, bytes),
+            End::Only => self.write_file(object, to, bytes),
+            End::Read | End::Write => self.write_pipe(object, to, bytes, before),
+            End::Socket(side) => self.write_pair(object, to, side, bytes),
             // A door is written outside.
             End::Door(_) => ActEnd::Reply(Reply::Done),
         }
@@ -96,79 +96,86 @@ impl Store {
 
     // A turn of a write of a pipe, of which so many bytes went before. Of at most `PIPE_BUF` bytes
     // it is whole.
-    fn write_pipe(&mut self, node: usize, to: Seen, bytes: &[u8], before: u64) -> ActEnd
-        requires inside { node < limit.OBJECTS }
-        ensures acts { Leaves (write_pipe to bytes.now before (kept_at self.old node).pipe
-            (is_open self.old.table node part.Read))
-            self.old node (Some to.key) result self.new }
+    fn write_pipe(&mut self, object: usize, to: Seen, bytes: &[u8], before: u64) -> ActEnd
+        requires inside { object < limit.OBJECTS }
+        ensures acts { Leaves (write_pipe to bytes.now before (kept_at self.old object).pipe
+            (is_open self.old.table object part.Read))
+            self.old object (Some to.key) result self.new }
         ensures few { act_bytes result ≡ 0 }
     {
         // What holds of every store holds of this one: each number has its body.
         let _ = &self.bodies;
-        let readers = self.is_open(node, End::Read);
+        let readers = self.is_open(object, End::Read);
         let rest = rest_of(bytes, before);
         let whole = bytes.len() <= Limits::PIPE_BUF;
-        let answer = self.put_pipe(node, rest, readers, whole);
+        let answer = self.put_pipe(object, rest, readers, whole);
         pipe_ending(to, bytes.len() as u64, before, answer)
     }
 
-    fn put_pipe(&mut self, node: usize, bytes: &[u8], readers: bool, whole: bool) -> PipeAnswer
-        requires inside { node < limit.OBJECTS }
+    fn put_pipe(&mut self, object: usize, bytes: &[u8], readers: bool, whole: bool) -> PipeAnswer
+        requires inside { object < limit.OBJECTS }
         ensures answer { result ≡ write_answer
-            (length (bytes_put limit.PIPE_BYTES (kept_at self.old node).pipe bytes.now whole))
-            (pipe_write (kept_at self.old node).pipe bytes.now whole readers) }
-        ensures left { self.new ≡ holding self.old node (Pipe (pipes.left_by_write
-            (kept_at self.old node).pipe
-            (pipe_write (kept_at self.old node).pipe bytes.now whole readers))) }
+            (length (bytes_put limit.PIPE_BYTES (kept_at self.old object).pipe bytes.now whole))
+            (pipe_write (kept_at self.old object).pipe bytes.now whole readers) }
+        ensures left { self.new ≡ holding self.old object (Pipe (pipes.left_by_write
+            (kept_at self.old object).pipe
+            (pipe_write (kept_at self.old object).pipe bytes.now whole readers))) }
     {
-        self.bodies[node].pipe.put(bytes, readers, whole)
+        self.bodies[object].pipe.put(bytes, readers, whole)
     }
 
-    fn write_pair(&mut self, node: usize, to: Seen, side: Side, bytes: &[u8]) -> ActEnd
-        requires inside { node < limit.OBJECTS }
-        ensures acts { let pair = (kept_at self.old node).pair in
+    fn write_pair(&mut self, object: usize, to: Seen, side: Side, bytes: &[u8]) -> ActEnd
+        requires inside { object < limit.OBJECTS }
+        ensures acts { let pair = (kept_at self.old object).pair in
             Leaves (has_written to (λ left. Pair (with_waiting pair (peer_of side) left))
             (length bytes.now)
             (pair_write pair side bytes.now
-            (is_open self.old.table node (part.Socket (peer_of side)))))
-            self.old node (Some to.key) result self.new }
+            (is_open self.old.table object (part.Socket (peer_of side)))))
+            self.old object (Some to.key) result self.new }
         ensures few { act_bytes result ≡ 0 }
     {
         // What holds of every store holds of this one: each number has its body.
         let _ = &self.bodies;
-        let peer_open = self.is_open(node, End::Socket(side.peer()));
-        let answer = self.put_pair(node, side, bytes, peer_open);
+        let peer_open = self.is_open(object, End::Socket(side.peer()));
+        let answer = self.put_pair(object, side, bytes, peer_open);
         write_ending(answer, to.nonblock)
     }
 
-    fn take_pair(&mut self, node: usize, side: Side, into: &mut [u8], peer_open: bool) -> PipeAnswer
-        requires inside { node < limit.OBJECTS }
+    fn take_pair(
+        &mut self,
+        object: usize,
+        side: Side,
+        into: &mut [u8],
+        peer_open: bool,
+    ) -> PipeAnswer
+        requires inside { object < limit.OBJECTS }
         ensures answer { result ≡ read_answer
-            (pair_read (kept_at self.old node).pair side (length into.old) peer_open) }
-        ensures left { self.new ≡ holding self.old node
-            (Pair (left_by_read (kept_at self.old node).pair side
-            (pair_read (kept_at self.old node).pair side (length into.old) peer_open))) }
-        ensures bytes { into.new ≡ read_into (half_at (kept_at self.old node).pair side) into.old }
+            (pair_read (kept_at self.old object).pair side (length into.old) peer_open) }
+        ensures left { self.new ≡ holding self.old object
+            (Pair (left_by_read (kept_at self.old object).pair side
+            (pair_read (kept_at self.old object).pair side (length into.old) peer_open))) }
+        ensures bytes { into.new ≡ read_into
+            (half_at (kept_at self.old object).pair side) into.old }
     {
-        self.bodies[node].pair.take(side, into, peer_open)
+        self.bodies[object].pair.take(side, into, peer_open)
     }
 
-    fn put_pair(&mut self, node: usize, side: Side, bytes: &[u8], peer_open: bool) -> PipeAnswer
-        requires inside { node < limit.OBJECTS }
+    fn put_pair(&mut self, object: usize, side: Side, bytes: &[u8], peer_open: bool) -> PipeAnswer
+        requires inside { object < limit.OBJECTS }
         ensures answer { result ≡ write_answer (length bytes.now)
-            (pair_write (kept_at self.old node).pair side bytes.now peer_open) }
-        ensures left { self.new ≡ holding self.old node
-            (Pair (left_by_write (kept_at self.old node).pair side
-            (pair_write (kept_at self.old node).pair side bytes.now peer_open))) }
+            (pair_write (kept_at self.old object).pair side bytes.now peer_open) }
+        ensures left { self.new ≡ holding self.old object
+            (Pair (left_by_write (kept_at self.old object).pair side
+            (pair_write (kept_at self.old object).pair side bytes.now peer_open))) }
     {
-        self.bodies[node].pair.put(side, bytes, peer_open)
+        self.bodies[object].pair.put(side, bytes, peer_open)
     }
 
     // Whether a description has this end of an object.
-    fn is_open(&self, node: usize, end: End) -> bool
-        ensures { result ≡ is_open self.now.table node «end» }
+    fn is_open(&self, object: usize, end: End) -> bool
+        ensures { result ≡ is_open self.now.table object «end» }
     {
-        let (first, second) = self.table.ends(node);
+        let (first, second) = self.table.ends(object);
         if end.is_first() {
             first > 0
         } else {
@@ -180,16 +187,16 @@ impl Store {
     pub(crate) fn shutdown(
         &mut self,
         call: &Call,
-        node: usize,
+        object: usize,
         side: Side,
         how: ShutdownHow,
     ) -> ActEnd
-        requires inside { node < limit.OBJECTS }
-        ensures acts { Leaves (acts_at self.old node (act.Shutdown side how) call.now)
-            self.old node None result self.new }
+        requires inside { object < limit.OBJECTS }
+        ensures acts { Leaves (acts_at self.old object (act.Shutdown side how) call.now)
+            self.old object None result self.new }
         ensures few { act_bytes result ≡ 0 }
     {
-        self.bodies[node].pair.shutdown(side, how);
+        self.bodies[object].pair.shutdown(side, how);
         ActEnd::Reply(Reply::Done)
     }
 }

@@ -1,5 +1,5 @@
-//! The table of descriptors, for the store of objects: what each call finds in it, and how each
-//! call changes it.
+//! The table of descriptors, for `call_turns`: what each call finds in it, and how each call
+//! changes it.
 //!
 //! `Table::decide` looks a call up once and changes nothing. What is decided is a refusal, or a
 //! `Decision` of `sequential_object`: the reply, where the table alone answers, or the object that the

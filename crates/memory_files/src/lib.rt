@@ -1,4 +1,4 @@
-//! The bytes of a regular file in memory, for the store of objects.
+//! The bytes of a regular file in memory, for `call_turns`.
 //!
 //! A [`FileBody`] takes the room for all its bytes, `Limits::FILE_BYTES`, when it is made, and no
 //! later call takes memory. The bytes stand in pages of 512 bytes: the first write into one takes

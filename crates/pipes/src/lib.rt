@@ -1,4 +1,4 @@
-//! The bytes that wait in a stream in memory, for the store of objects and for pairs of sockets.
+//! The bytes that wait in a stream in memory, for `call_turns` and for pairs of sockets.
 //!
 //! A [`StreamBody`] takes the room for all its bytes, as many as its type says, when it is made, and
 //! no later call takes memory; a [`PipeBody`] is one of `Limits::PIPE_BYTES`. The bytes stand in a

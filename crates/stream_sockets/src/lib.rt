@@ -1,4 +1,4 @@
-//! The bytes of a pair of connected stream sockets in memory, for the store of objects.
+//! The bytes of a pair of connected stream sockets in memory, for `call_turns`.
 //!
 //! A [`PairBody`] holds what waits in both directions, and what is shut at each side. It takes the
 //! room for all its bytes, `Limits::PAIR_BYTES` each way, when it is made, and no later call takes

@@ -15,8 +15,8 @@ use Rattle.call_turns.proofs.store.Store.read_pair.Goals as goal
 pub returns-clause-acts : goal.returns-clause-acts
 returns-clause-acts c =
     let h = c.args.self.now in
-    let p = (kept_at h c.args.node).pair in
-    let peer_open = is_open h.table c.args.node (part.Socket (peer_of c.args.side)) in
+    let p = (kept_at h c.args.object).pair in
+    let peer_open = is_open h.table c.args.object (part.Socket (peer_of c.args.side)) in
     let place : List ℕ = c.args.into.items in
     let r = pair_read p c.args.side (length place) peer_open in
     let answered : c.take_pair-answer.result ≡ read_answer r = search rules in
@@ -31,9 +31,9 @@ returns-clause-acts c =
     c.read_ending.ensures.shown ∙ ap (λ (l : List ℕ). ending_of_read c.take_pair-answer.result l c.args.from.nonblock)
     kept in
     let told = as_answered ∙ ap₂ (λ a b. ending_of_read a b c.args.from.nonblock) answered filled in
-    let left : c.take_pair-answer.new.self ≡ holding h c.args.node (Pair (left_by_read p c.args.side r)) =
+    let left : c.take_pair-answer.new.self ≡ holding h c.args.object (Pair (left_by_read p c.args.side r)) =
     search rules in
-    let inside : c.args.node < length h.bodies = search rules in
-    read_of_pair h c.args.node inside c.args.from c.args.side place (peer_open
+    let inside : c.args.object < length h.bodies = search rules in
+    read_of_pair h c.args.object inside c.args.from c.args.side place (peer_open
     && not (half_at p (peer_of c.args.side)).writing_shut)
     c.read_ending.result c.take_pair-answer.new.self told left

@@ -14,13 +14,13 @@ use Rattle.call_turns.proofs.store.Store.write_pair.Goals as goal
 pub returns-clause-acts : goal.returns-clause-acts
 returns-clause-acts c =
     let h = c.args.self.now in
-    let p = (kept_at h c.args.node).pair in
-    let w = pair_write p c.args.side c.args.bytes.now (is_open h.table c.args.node (part.Socket (peer_of c.args.side)))
-    in
+    let p = (kept_at h c.args.object).pair in
+    let w = pair_write p c.args.side c.args.bytes.now
+    (is_open h.table c.args.object (part.Socket (peer_of c.args.side))) in
     let told : c.write_ending.result ≡ ending_of_write (write_answer (length c.args.bytes.now) w) c.args.to.nonblock =
     search rules in
-    let left : c.put_pair-answer.new.self ≡ holding h c.args.node (Pair (left_by_write p c.args.side w)) =
+    let left : c.put_pair-answer.new.self ≡ holding h c.args.object (Pair (left_by_write p c.args.side w)) =
     search rules in
-    let inside : c.args.node < length h.bodies = search rules in
-    written_pair h c.args.node inside c.args.to c.args.side (length c.args.bytes.now) w c.write_ending.result
+    let inside : c.args.object < length h.bodies = search rules in
+    written_pair h c.args.object inside c.args.to c.args.side (length c.args.bytes.now) w c.write_ending.result
     c.put_pair-answer.new.self told left

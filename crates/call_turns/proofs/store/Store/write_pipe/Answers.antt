@@ -14,16 +14,16 @@ use Rattle.call_turns.proofs.store.Store.write_pipe.Goals as goal
 pub returns-clause-acts : goal.returns-clause-acts
 returns-clause-acts c =
     let h = c.args.self.now in
-    let node = c.args.node in
+    let object = c.args.object in
     let bytes = c.args.bytes.now in
-    let waiting = (kept_at h node).pipe in
+    let waiting = (kept_at h object).pipe in
     let rest = drop c.args.before bytes in
     let whole = nat_le (length bytes) limit.PIPE_BUF in
     let now = length (bytes_put limit.PIPE_BYTES waiting rest whole) in
-    let w = pipe_write waiting rest whole (is_open h.table node part.Read) in
+    let w = pipe_write waiting rest whole (is_open h.table object part.Read) in
     let told : c.pipe_ending.result ≡ ending_of_pipe c.args.to (length bytes) c.args.before (write_answer now w) =
     search rules in
-    let left : c.put_pipe-answer.new.self ≡ holding h node (Pipe (left_by_write waiting w)) = search rules in
-    let inside : node < length h.bodies = search rules in
-    written_pipe h node inside c.args.to (length bytes) c.args.before now w c.pipe_ending.result
+    let left : c.put_pipe-answer.new.self ≡ holding h object (Pipe (left_by_write waiting w)) = search rules in
+    let inside : object < length h.bodies = search rules in
+    written_pipe h object inside c.args.to (length bytes) c.args.before now w c.pipe_ending.result
     c.put_pipe-answer.new.self told left
