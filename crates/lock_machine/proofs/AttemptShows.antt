@@ -1,7 +1,7 @@
 -- An attempt at the lock of the table is that of the lock machine.
 use Rattle.std.proofs.Common.{◌≡◌, ℕ, ◌+◌, ◌<◌, ◌≤◌, ◌^◌, List, [], ◌∷◌, ◌++◌, length, map, set, get_or, slice_get}
 use Rattle.std.proofs.Common.{Option, Some, None, Bool, true, false, sym, refl, ap, ap₂, ◌∙◌, subst, arith, ⊎_elim}
-use Rattle.std.proofs.lemmas.Bool.{and_from, and_left, and_right, cases_Bool, cond-true, cond-false, false≢true, le-leb}
+use Rattle.std.proofs.lemmas.Bool.{and_from, and_left, and_right, cases_Bool, cond-true, cond-false, le-leb}
 use Rattle.std.proofs.lemmas.Bool.{leb-true, leb-false, lt-leb}
 use Rattle.std.proofs.lemmas.List.{get_or-set_same, get_or_append_left, get_or_push, length-append, length-map}
 use Rattle.std.proofs.lemmas.List.{length-set, map-append, set-get_or}
@@ -32,7 +32,7 @@ use Rattle.lock_model.specs.State.Phase.{WantsObject, WantsTable}
 use Rattle.sequential_object.specs.Worlds.{World}
 use Rattle.call_turns.specs.Store.{EndsAt, GoesOut, LocksAsStep, Stands, StartsIn, Stored, number_locked}
 use Rattle.lock_machine.specs.Held.{turn_started}
-use Rattle.lock_machine.specs.Events.{Grants, Parts, PlansTo, Tries, TriesIn, TriesInTime, TriesLock, granted_row}
+use Rattle.lock_machine.specs.Events.{Grants, IfInTime, Parts, PlansTo, Tries, TriesIn, TriesLock, granted_row}
 use Rattle.lock_machine.specs.Events.{in_time, later, parts}
 use Rattle.lock_model.specs.Rows.{shown}
 use Rattle.lock_machine.specs.Conditions.{Conditions, setup_under}
@@ -571,7 +571,9 @@ not_made terms w s i made new h off g =
 time_tried : OutsideLocks → LocksAsStep
     → (terms : Conditions) (w : Whole) (s : State) (i : ℕ) (call : Call) (carried : Carried) (made : Bool) (new : Parts)
     (b : Bool) → Trying terms w s i call carried → in_time (table_parts w i) 1 ≡ b
-    → TriesInTime w.settings.patience b made i call carried (table_parts w i) new
+    → IfInTime b made
+    (TriesLock w.settings.patience (takes w.lock (thread_at w i).clock) i call carried (table_parts w i) new)
+    (new ≡ table_parts w i)
     → Attempted terms s i made (table_tried w i new)
 time_tried outside numbers terms w s i call carried made new true a room h =
     let P : Bool → Type 0 = λ b. Attempted terms s i b (table_tried w i new) in

@@ -14,8 +14,9 @@ use Rattle.posix_terms.specs.declared.transcript.HistoryRow.{HistoryRow}
 use Rattle.posix_terms.specs.declared.transcript.Turn.{Turn}
 use Rattle.det_mutex.specs.Attempt.{freed, held, takes}
 use Rattle.det_mutex.specs.declared.lock.DetLock.{DetLock}
-use Rattle.lock_machine.specs.Events.{Grants, GrantsObject, ObjectInTime, Parts, granted_row, PlansTo, Reaches}
-use Rattle.lock_machine.specs.Events.{ReachesIn, Tries, TriesIn, TriesInTime, TriesLock, in_time, later, object_cost}
+use Rattle.lock_machine.specs.Events.{Grants, GrantsObject, IfInTime, ObjectWanted, Parts, granted_row, PlansTo}
+use Rattle.lock_machine.specs.Events.{Reaches, ReachesIn, Tries, TriesIn}
+use Rattle.lock_machine.specs.Events.{TriesLock, TriesObject, in_time, later, object_cost}
 use Rattle.lock_machine.specs.Events.{object_reached, object_taken, parts, takes_object}
 use Rattle.lock_machine.specs.Held.{phase_started, turn_started}
 use Rattle.lock_machine.specs.Threads.{Thread}
@@ -91,7 +92,8 @@ tried_planned patience i now call carried p turn lock old new is room free clock
     (record (later old 1) { lock = held i old.lock }) new (subst R held_is (subst Q turn_is (subst P clock h)))
     in
     let F : Bool → Type 0 = λ b. TriesLock patience b i call carried old new in
-    let T : Bool → Type 0 = λ b. TriesInTime patience b true i call carried old new in
+    let T : Bool → Type 0 = λ b. IfInTime b true
+    (TriesLock patience (takes old.lock old.thread.clock) i call carried old new) (new ≡ old) in
     let U : Phase → Type 0 = λ q. TriesIn patience q true i old new in
     subst U (sym is) (subst T (sym room) (refl, subst F (sym free) plans))
 
@@ -129,10 +131,16 @@ reached_granted patience i now call carried clock object lock own later_own old 
     let P : Parts → Type 0 = λ p. Grants patience (record { clock = clock; thread = i }) call carried (Some object) p
     new in
     let grants = subst P reached_is (subst W is h) in
-    let T : Bool → Type 0 = λ b. ObjectInTime patience b true true i (record { clock = clock; thread = i }) call carried
-    object own later_own old new in
-    let F : Bool → Type 0 = λ b. ObjectInTime patience (in_time old (object_cost b (keeps_table call))) b true i
-    (record { clock = clock; thread = i }) call carried object own later_own old new in
+    let wanted : ObjectWanted = record {
+      turn = record { clock = clock; thread = i };
+      call = call;
+      carried = carried;
+      object = object;
+    } in
+    let rests : Type 0 = (later_own ≡ own) × (new ≡ old) in
+    let T : Bool → Type 0 = λ b. IfInTime b true (TriesObject patience true wanted own later_own old new) rests in
+    let F : Bool → Type 0 = λ b. IfInTime (in_time old (object_cost b (keeps_table call))) true
+    (TriesObject patience b wanted own later_own old new) rests in
     let U : Phase → Type 0 = λ q. ReachesIn patience q true i own later_own old new in
     subst U (sym is) (subst F (sym taken) (subst T (sym room) (refl, (held_is, grants))))
 

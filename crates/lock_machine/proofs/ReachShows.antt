@@ -25,7 +25,8 @@ use Rattle.lock_model.specs.State as lock
 use Rattle.lock_model.specs.State.{State, live_clocks, object_of, thread_of}
 use Rattle.lock_model.specs.State.Phase.{WantsObject}
 use Rattle.sequential_object.specs.Worlds.{World}
-use Rattle.lock_machine.specs.Events.{Grants, ObjectInTime, Parts, Reaches, ReachesIn, TriesObject, in_time, later}
+use Rattle.lock_machine.specs.Events.{Grants, IfInTime, ObjectWanted, Parts, Reaches, ReachesIn, TriesObject}
+use Rattle.lock_machine.specs.Events.{in_time, later}
 use Rattle.lock_machine.specs.Events.{object_cost, object_reached, takes_object}
 use Rattle.lock_machine.specs.Conditions.{Conditions, setup_under}
 use Rattle.lock_machine.specs.Shows.{PhaseShows, Shows}
@@ -233,10 +234,14 @@ reach_full terms w s i n clock call carried way taken a is full =
     (cost_in terms w s i n clock call carried way taken a is)
     (subst (λ (c : ℕ). 2 ^ 62 < c + object_cost taken (keeps_table call)) (sym (a.shows.threads i).clock) full)
 
+-- a call of thread i that wants this object, with its turn
+abbrev wanted_at : ℕ → ℕ → ℕ → Call → Carried → ObjectWanted
+wanted_at i n clock call carried = record { turn = turn_at i clock; call = call; carried = carried; object = n }
+
 object_tried_by : (terms : Conditions) (w : Whole) (s : State) (i n clock : ℕ) (call : Call) (carried : Carried)
     (way : Way) (now : DetLock) (new : Parts) (taken : Bool) → Reaching terms w s i n clock call carried way
     → taken_in s i n ≡ taken → (thread_at w i).clock + object_cost taken (keeps_table call) ≤ 2 ^ 62
-    → TriesObject w.settings.patience taken i (turn_at i clock) call carried n (lock_at w n) now (table_parts w i) new
+    → TriesObject w.settings.patience taken (wanted_at i n clock call carried) (lock_at w n) now (table_parts w i) new
     → Attempted terms s i true (object_tried w i n now new)
 object_tried_by terms w s i n clock call carried way now new true a is room (held_now, g) =
     let P : DetLock → Type 0 = λ l. Attempted terms s i true (object_tried w i n l new) in
@@ -254,13 +259,14 @@ object_in_time : (terms : Conditions) (w : Whole) (s : State) (i n clock : ℕ) 
     (way : Way) (made : Bool) (now : DetLock) (new : Parts) (taken b : Bool)
     → Reaching terms w s i n clock call carried way → taken_in s i n ≡ taken
     → in_time (table_parts w i) (object_cost taken (keeps_table call)) ≡ b
-    → ObjectInTime w.settings.patience b taken made i (turn_at i clock) call carried n (lock_at w n) now
-    (table_parts w i) new → Attempted terms s i made (object_tried w i n now new)
+    → IfInTime b made (TriesObject w.settings.patience taken (wanted_at i n clock call carried) (lock_at w n) now
+    (table_parts w i) new) ((now ≡ lock_at w n) × (new ≡ table_parts w i))
+    → Attempted terms s i made (object_tried w i n now new)
 object_in_time terms w s i n clock call carried way made now new taken true a is room (made_it, h) =
     let P : Bool → Type 0 = λ b. Attempted terms s i b (object_tried w i n now new) in
     subst P (sym made_it) (object_tried_by terms w s i n clock call carried way now new taken a is
     (leb-true ((thread_at w i).clock + object_cost taken (keeps_table call)) (2 ^ 62) room) h)
-object_in_time terms w s i n clock call carried way made now new taken false a is full (missed, still, e) =
+object_in_time terms w s i n clock call carried way made now new taken false a is full (missed, (still, e)) =
     let P : Bool → Type 0 = λ b. Attempted terms s i b (object_tried w i n now new) in
     let Q : DetLock → Type 0 = λ l. Attempted terms s i false (object_tried w i n l new) in
     let R : Parts → Type 0 = λ p. Attempted terms s i false (object_tried w i n (lock_at w n) p) in

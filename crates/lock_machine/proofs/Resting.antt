@@ -18,14 +18,13 @@ use Rattle.posix_terms.specs.declared.outcome.Given.{Given}
 use Rattle.posix_terms.specs.declared.outcome.Outcome.{Outcome}
 use Rattle.posix_terms.specs.declared.reply.Answer as posix
 use Rattle.posix_terms.specs.declared.transcript.HistoryRow.{HistoryRow}
-use Rattle.posix_terms.specs.declared.transcript.Turn.{Turn}
 use Rattle.posix_terms.specs.declared.step.Step.{Step}
 use Rattle.posix_terms.specs.declared.step.Step.TheVariants as step
 use Rattle.lock_model.specs.Held.{has_end, last_call}
 use Rattle.lock_machine.specs.Requests.{AskLittle}
 use Rattle.lock_machine.specs.Asking.{Asks, EndsIf, GoesAgain, GoesAgainIn, GoesAgainWith}
-use Rattle.lock_machine.specs.Events.{Answers, AnswersIn, AnswersWith, ObjectInTime, Parts, Reaches, ReachesIn, Tries}
-use Rattle.lock_machine.specs.Events.{TriesIn, TriesInTime, parts}
+use Rattle.lock_machine.specs.Events.{Answers, AnswersIn, AnswersWith, IfInTime, Parts, Reaches, ReachesIn, Tries}
+use Rattle.lock_machine.specs.Events.{TriesIn, parts}
 use Rattle.lock_machine.specs.Outings.{AnswersOutside, Begins, BeginsIf, ConcludesHeld, ConcludesIf, ConcludesRow}
 use Rattle.lock_machine.specs.Outings.{ConcludesWith, OutsideParts, RecordedParts, Records, RecordsIf, RecordsRow}
 use Rattle.lock_machine.specs.Outings.{answers_errand, can_count, outside_parts, progress_at, progress_by}
@@ -331,15 +330,15 @@ conclude_rests w ts cs ds i n o x v before own l later rows told h before_is ans
 
 -- ## Attempts
 
-tries_rest_in_time : (room : Bool) (patience : ℕ) (made : Bool) (i : ℕ) (call : Call) (carried : Carried)
-    (old new : Parts) → TriesInTime patience room made i call carried old new → made ≡ false → new ≡ old
-tries_rest_in_time true patience made i call carried old new h stays = absurd (true≢false (sym h.0 ∙ stays))
-tries_rest_in_time false patience made i call carried old new h stays = h.1
+-- an attempt that was not made changes nothing
+not_in_time : (T R : Type 0) (room made : Bool) → IfInTime room made T R → made ≡ false → R
+not_in_time T R true made h stays = absurd (true≢false (sym h.0 ∙ stays))
+not_in_time T R false made h stays = h.1
 
 tries_rest : (p : Phase) (patience : ℕ) (made : Bool) (i : ℕ) (old new : Parts) → TriesIn patience p made i old new
     → made ≡ false → new ≡ old
 tries_rest (phase.WantsTable call carried) patience made i old new h stays =
-    tries_rest_in_time _ patience made i call carried old new h stays
+    not_in_time _ _ _ made h stays
 tries_rest p patience made i old new h stays = h.1
 
 pub try_rests : (w : Whole) (ts : List declared.Thread) (cs ds : List ThreadClock) (i : ℕ) (x v : declared.Thread)
@@ -362,18 +361,10 @@ try_rests w ts cs ds i x v l later rows r h tried =
     ∙ ap (λ (p : Parts). record w { threads = joined ts cs; lock = p.lock; table = p.table; rows = p.rows }) same))
     tried
 
-reaches_rest_in_time : (room taken : Bool) (patience : ℕ) (made : Bool) (i : ℕ) (turn : Turn) (call : Call)
-    (carried : Carried) (object : ℕ) (lock now : DetLock) (old new : Parts)
-    → ObjectInTime patience room taken made i turn call carried object lock now old new → made ≡ false → (now ≡ lock)
-    × (new ≡ old)
-reaches_rest_in_time true taken patience made i turn call carried object lock now old new h stays =
-    absurd (true≢false (sym h.0 ∙ stays))
-reaches_rest_in_time false taken patience made i turn call carried object lock now old new h stays = (h.1, h.2)
-
 reaches_rest : (p : Phase) (patience : ℕ) (made : Bool) (i : ℕ) (lock now : DetLock) (old new : Parts)
     → ReachesIn patience p made i lock now old new → made ≡ false → (now ≡ lock) × (new ≡ old)
 reaches_rest (phase.WantsObject call carried clock object) patience made i lock now old new h stays =
-    reaches_rest_in_time _ _ patience made i _ call carried object lock now old new h stays
+    not_in_time _ _ _ made h stays
 reaches_rest p patience made i lock now old new h stays = (h.1, h.2)
 
 pub reach_rests : (w : Whole) (ts : List declared.Thread) (cs ds : List ThreadClock) (i n : ℕ) (x v : declared.Thread)

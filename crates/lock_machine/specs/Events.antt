@@ -104,16 +104,16 @@ TriesLock patience true i call carried old new =
     (record (later old 1) { lock = held i old.lock }) new
 TriesLock patience false i call carried old new = new ≡ later old 1
 
--- by whether the clock has room: the attempt for the table is made, or nothing changes
-abbrev pub TriesInTime : ℕ → Bool → Bool → ℕ → Call → Carried → Parts → Parts → Type 0
-TriesInTime patience true made i call carried old new =
-    (made ≡ true) × TriesLock patience (takes old.lock old.thread.clock) i call carried old new
-TriesInTime patience false made i call carried old new = (made ≡ false) × (new ≡ old)
+-- by whether the clock has room: an attempt is made, with this result; or none is, and this is left
+abbrev pub IfInTime : Bool → Bool → Type 0 → Type 0 → Type 0
+IfInTime true made tried rests = (made ≡ true) × tried
+IfInTime false made tried rests = (made ≡ false) × rests
 
 -- in this phase: a thread that wants the table attempts its lock, any other does nothing
 abbrev pub TriesIn : ℕ → Phase → Bool → ℕ → Parts → Parts → Type 0
 TriesIn patience (phase.WantsTable call carried) made i old new =
-    TriesInTime patience (in_time old 1) made i call carried old new
+    IfInTime (in_time old 1) made
+    (TriesLock patience (takes old.lock old.thread.clock) i call carried old new) (new ≡ old)
 TriesIn patience p made i old new = (made ≡ false) × (new ≡ old)
 
 -- thread i attempts the lock of the table, where its phase and its clock let it
@@ -153,29 +153,33 @@ GrantsObject patience (phase.WantsObject call carried clock object) i old new =
     Grants patience (record { clock = clock; thread = i }) call carried (Some object) old new
 GrantsObject patience p i old new = new ≡ old
 
--- by whether thread i takes the object's lock: its call is granted with it, or the attempt fails
-abbrev pub TriesObject : ℕ → Bool → ℕ → Turn → Call → Carried → ℕ → DetLock → DetLock → Parts
-    → Parts → Type 0
-TriesObject patience true i turn call carried object lock now old new =
-    (now ≡ held i lock)
-    × Grants patience turn call carried (Some object) (object_reached (keeps_table call) old) new
-TriesObject patience false i turn call carried object lock now old new =
-    (now ≡ lock) × (new ≡ later old 1)
+-- a call that wants this object, with its turn
+pub record ObjectWanted : Type 0 where
+  pub turn : Turn
+  pub call : Call
+  pub carried : Carried
+  pub object : ℕ
 
--- by whether the clock has room: the attempt for the object is made, or nothing changes
-abbrev pub ObjectInTime : ℕ → Bool → Bool → Bool → ℕ → Turn → Call → Carried → ℕ → DetLock → DetLock
-    → Parts → Parts → Type 0
-ObjectInTime patience true takes made i turn call carried object lock now old new =
-    (made ≡ true) × TriesObject patience takes i turn call carried object lock now old new
-ObjectInTime patience false takes made i turn call carried object lock now old new =
-    (made ≡ false) × (now ≡ lock) × (new ≡ old)
+-- by whether its thread takes the object's lock: the call is granted with it, or the attempt fails
+abbrev pub TriesObject : ℕ → Bool → ObjectWanted → DetLock → DetLock → Parts → Parts → Type 0
+TriesObject patience true wanted lock now old new =
+    (now ≡ held wanted.turn.thread lock)
+    × Grants patience wanted.turn wanted.call wanted.carried (Some wanted.object)
+    (object_reached (keeps_table wanted.call) old) new
+TriesObject patience false wanted lock now old new = (now ≡ lock) × (new ≡ later old 1)
 
 -- in this phase: a thread that wants an object attempts its lock, any other does nothing
 abbrev pub ReachesIn : ℕ → Phase → Bool → ℕ → DetLock → DetLock → Parts → Parts → Type 0
 ReachesIn patience (phase.WantsObject call carried clock object) made i lock now old new =
     let taken = takes_object i lock old in
-    ObjectInTime patience (in_time old (object_cost taken (keeps_table call))) taken made i
-    (record { clock = clock; thread = i }) call carried object lock now old new
+    let wanted : ObjectWanted = record {
+      turn = record { clock = clock; thread = i };
+      call = call;
+      carried = carried;
+      object = object;
+    } in
+    IfInTime (in_time old (object_cost taken (keeps_table call))) made
+    (TriesObject patience taken wanted lock now old new) ((now ≡ lock) × (new ≡ old))
 ReachesIn patience p made i lock now old new = (made ≡ false) × (now ≡ lock) × (new ≡ old)
 
 -- thread i attempts the lock of the object that it wants, where its phase and its clock let it

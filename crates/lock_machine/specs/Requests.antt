@@ -1,6 +1,6 @@
 -- Believed: a contract of the headline stands on it.
 -- How much requests ask.
-use Rattle.std.specs.Prelude.{◌≡◌, ℕ, ◌≤◌, Option, Some, None, if◌then◌else◌}
+use Rattle.std.specs.Prelude.{◌≡◌, ◌≤◌, Option, Some, None, if◌then◌else◌}
 use Rattle.sequential_object.specs.Bytes.{most_asked}
 use Rattle.sequential_object.specs.Meant.{may_ask, request_asked, request_kind}
 use Rattle.sequential_object.specs.Object.{State}

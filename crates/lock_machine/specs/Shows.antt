@@ -199,9 +199,8 @@ logged_clock w i =
     if w.settings.version == 2 then clock_in_row (row_outside (thread_at w i).phase w.rows)
     else None
 
--- this outcome comes for thread i, exactly when it can, and it
--- diverges exactly when the outcome does
--- not answer
+-- this outcome comes for thread i, exactly when it can, and it diverges exactly when the outcome
+-- does not answer
 pub record Advanced (made : Progress) (i : ℕ) (g : Given) (new : Whole) (terms : Conditions)
     (s : State) : Type 0 where
   pub can : can_advance (setup_under terms) s i ≡ has_moved made

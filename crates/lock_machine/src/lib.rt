@@ -1,6 +1,6 @@
-//! The lock machine, made run, for the machine with a log and doors: threads that share one table
-//! of descriptors and take its locks at their turns, one event at a time, where each event is that
-//! of the definition in `lock_model`.
+//! The lock machine in code, for the crate `machine`: threads that share one table of descriptors
+//! and take its locks at their turns, one event at a time. Each event refines that of the
+//! definition in `lock_model`.
 //!
 //! A [`LockMachine`] is made for 1 to 16 threads, and is handed their steps and the outcomes from
 //! outside. `phase` returns where a thread is between its events: `ask`, `end`, `attempt`,
