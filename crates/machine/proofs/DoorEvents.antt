@@ -39,13 +39,17 @@ use Rattle.machine.specs.DoorsThere.{job_out}
 
 -- ## Events that need no turn
 
-abbrev goes_out : lock.Phase → Bool
+abbrev pub goes_out : lock.Phase → Bool
 goes_out (ToOutside job) = true
 goes_out p = false
 
-abbrev is_outside : lock.Phase → Bool
+abbrev pub is_outside : lock.Phase → Bool
 is_outside (Outside job) = true
 is_outside p = false
+
+abbrev pub is_recorded : lock.Phase → Bool
+is_recorded (Recorded job) = true
+is_recorded p = false
 
 -- the change of the world that waits for the answer
 abbrev pub late_of : Setup → lock.Phase → Option World
@@ -100,9 +104,7 @@ effect_world setup i t (Recorded job) m h =
     world_is (answer setup.calls t job) m _ (within_is setup.limits.clock_limit (answer setup.calls t job) m h) refl
 effect_world setup i t (Blocked c b) m h =
     world_is (again t c b) m None (within_is setup.limits.clock_limit (again t c b) m h) refl
-effect_world setup i t (WantsTable c b) m h = absurd (none-some m h)
-effect_world setup i t (WantsObject c b clock n way) m h = absurd (none-some m h)
-effect_world setup i t Ended m h = absurd (none-some m h)
+effect_world setup i t p m h = absurd (none-some m h)
 
 -- the world after such an event
 pub world_moved : (setup : Setup) (s : State) (i : ℕ) → can_advance setup s i ≡ true
@@ -262,13 +264,7 @@ tried_as settings supply s i inside can wanting =
         (by_failed (WantsTable c b) is refl)
     at_phase (WantsObject c b clock n way) is w = either (is_number s.table.holder i && takes (object_of s n) t.clock) _
         _ (by_way c b _ n way (ap holds_table is)) (by_failed (WantsObject c b clock n way) is refl)
-    at_phase Working is w = absurd (false≢true w)
-    at_phase (Granted job) is w = absurd (false≢true w)
-    at_phase (ToOutside job) is w = absurd (false≢true w)
-    at_phase (Outside job) is w = absurd (false≢true w)
-    at_phase (Recorded job) is w = absurd (false≢true w)
-    at_phase (Blocked c b) is w = absurd (false≢true w)
-    at_phase Ended is w = absurd (false≢true w)
+    at_phase p is w = absurd (false≢true w)
 
     by_phase : (p : lock.Phase) → wants t.phase ≡ true → IsTried settings s (tried setup s i) i
     by_phase p w = at_phase t.phase refl w

@@ -1,10 +1,9 @@
 -- Who holds the lock of a door's number, and what the number is that of.
-use Rattle.std.proofs.Common.{◌≡◌, ◌⊎◌, ℕ, ◌<◌, ◌==◌, ◌||◌, ℤ, pos, not, length, Option, Some, None, Ok, inl, inr, Bool}
+use Rattle.std.proofs.Common.{◌≡◌, ℕ, ◌<◌, ◌==◌, ◌||◌, ℤ, pos, not, length, Option, Some, None, Ok, inl, inr, Bool}
 use Rattle.std.proofs.Common.{true, false, is_some, sym, refl, ap, ap₂, ◌∙◌, subst, arith}
 use Rattle.std.proofs.lemmas.Bool.{false≢true, true≢false}
 use Rattle.std.proofs.lemmas.Bool.Decides.{nat_tests}
 use Rattle.std.proofs.lemmas.Option.{none-some, same_Some}
-use Rattle.std.specs.FinMap as fin
 use Rattle.std.specs.Prelude.{slice_index_or}
 use Rattle.lock_machine.specs.Shows.{IsOut, PhaseShows}
 use Rattle.lock_machine.specs.Whole.{Whole, settings_in, thread_at}
@@ -24,22 +23,18 @@ use Rattle.lock_model.specs.State.{Job, object_of, thread_of}
 use Rattle.lock_model.specs.State.Phase.{Blocked, Ended, Granted, Outside, Recorded, ToOutside, WantsObject, WantsTable}
 use Rattle.lock_model.specs.State.Phase.{Working}
 use Rattle.sequential_object.specs.Worlds.{World}
-use Rattle.descriptor_table.specs.Shows.{is_of}
 use Rattle.call_turns.specs.Errands.{TakesLocked, door_taken, object_found}
 use Rattle.sequential_object.specs.Decided.{decided}
 use Rattle.sequential_object.specs.Deciding.{leads_outside}
-use Rattle.sequential_object.specs.Descriptors.{described}
 use Rattle.sequential_object.specs.Locked.{keeps_table, locked_object}
-use Rattle.sequential_object.specs.Meant.{locks_of, request_kind, seen, transfers}
-use Rattle.sequential_object.specs.Object.{DoorTo, State, content_of}
-use Rattle.sequential_object.specs.So.{DecidedSo, IsListener, IsOpening, Shows}
+use Rattle.sequential_object.specs.Meant.{locks_of, request_kind, seen}
+use Rattle.sequential_object.specs.Object.{State}
+use Rattle.sequential_object.specs.So.{DecidedSo, IsOpening, Shows}
 use Rattle.sequential_object.specs.Step.{Carried, Stepped, asks, step}
 use Rattle.posix_terms.specs.Calls.{Call}
 use Rattle.posix_terms.specs.declared.call.Call.TheVariants as call
 use Rattle.posix_terms.specs.declared.limits.TheConstants.Limits as limit
 use Rattle.posix_terms.specs.declared.object.Door.{Door}
-use Rattle.posix_terms.specs.declared.object.Door.TheVariants as door
-use Rattle.posix_terms.specs.declared.object.End.{End}
 use Rattle.sequential_object.specs.declared.decision.Decision.TheVariants as decision
 use Rattle.sequential_object.specs.declared.decision.Deed.{Deed}
 use Rattle.sequential_object.specs.declared.decision.Deed.TheVariants as deed
@@ -48,10 +43,10 @@ use Rattle.sequential_object.specs.declared.decision.Seen.{Seen}
 use Rattle.posix_terms.specs.Queries.{Query}
 use Rattle.posix_terms.specs.declared.transcript.Settings.{Settings}
 use Rattle.machine.specs.Doors.{brings_back}
-use Rattle.machine.specs.DoorsThere.{HaveOne, Names, door_of, is_listener, job_out}
+use Rattle.machine.specs.DoorsThere.{HaveOne, LeadsOut, Names, door_of, is_listener, job_out}
 use Rattle.machine.specs.Runs.{IsEnd, terms_with}
-use Rattle.machine.proofs.DoorCalls.{GoesOut, IsDoorAt, a_listener, close_leaves, closes_free, door_at, goes_out}
-use Rattle.machine.proofs.DoorCalls.{no_listener, stays_free}
+use Rattle.machine.proofs.DoorCalls.{GoesOut, a_listener, close_leaves, closes_free, door_at, goes_out, no_listener}
+use Rattle.machine.proofs.DoorCalls.{one_door, transfer}
 use Rattle.machine.proofs.Naming.{IsNumbered, names_back, names_gone, names_own, number_slot}
 use Rattle.machine.proofs.NoNewDoors.{AddsNone, step_adds_none}
 
@@ -85,12 +80,7 @@ held_out (Outside x) job h = let same : x ≡ job = same_Some x job h in
     (ap (λ (j : Job). object_in j.plan) same, ap (λ (j : Job). table_held_by (Some j)) same)
 held_out (Recorded x) job h = let same : x ≡ job = same_Some x job h in
     (ap (λ (j : Job). object_in j.plan) same, ap (λ (j : Job). table_held_by (Some j)) same)
-held_out Working job h = absurd (none-some job h)
-held_out (WantsTable c b) job h = absurd (none-some job h)
-held_out (WantsObject c b clock n way) job h = absurd (none-some job h)
-held_out (Granted x) job h = absurd (none-some job h)
-held_out (Blocked c b) job h = absurd (none-some job h)
-held_out Ended job h = absurd (none-some job h)
+held_out p job h = absurd (none-some job h)
 
 -- that of a thread of a machine
 out_shown : (w : Whole) (s : lock.State) (i : ℕ) (p : Phase) (u : lock.Thread) (job : Job)
@@ -114,12 +104,7 @@ pub in_of_out : (p : lock.Phase) (job : Job) → job_out p ≡ Some job → job_
 in_of_out (ToOutside x) job h = h
 in_of_out (Outside x) job h = h
 in_of_out (Recorded x) job h = h
-in_of_out Working job h = absurd (none-some job h)
-in_of_out (WantsTable c b) job h = absurd (none-some job h)
-in_of_out (WantsObject c b clock n way) job h = absurd (none-some job h)
-in_of_out (Granted x) job h = absurd (none-some job h)
-in_of_out (Blocked c b) job h = absurd (none-some job h)
-in_of_out Ended job h = absurd (none-some job h)
+in_of_out p job h = absurd (none-some job h)
 
 pub out_at : (w : Whole) (s : lock.State) (i : ℕ) (job : Job) → TakesLocked → HavePlans (real_calls (settings_in w)) s
     → IsEnd w s → job_out (thread_of s i).phase ≡ Some job → OutAt s i job
@@ -183,19 +168,6 @@ pub number_taken : (w : World) (o : Option ℕ) (n : ℕ) → numbered w o ≡ S
 number_taken w (Some k) n h = (k, (refl, same_Some (number_of w k) n h))
 number_taken w None n h = absurd (none-some n h)
 
--- the door of a description
-door_of_seen : (w : World) (descriptor : ℤ) (at : Seen) (k : ℕ) → Shows w.object → IsNumbered w
-    → (let v = seen w.object in v.described descriptor ≡ Ok at) → at.object ≡ k → leads_outside at.«end» ≡ true
-    → IsDoorAt w.object at.«end» k
-door_of_seen w descriptor at k known num found own outside =
-    let z = known.described descriptor at found in
-    let e = z.description in
-    let same : e.object ≡ k = z.object_is ∙ own in
-    door_at w.object at.«end» k
-    (ap (λ (n : ℕ). is_some (fin.get w.object.objects n)) (sym same) ∙ num.described at.key e z.there)
-    (ap₂ (λ (x : End) (n : ℕ). is_of x (content_of w.object n)) (sym z.end_is) (sym same) ∙ num.ends at.key e z.there)
-    outside
-
 -- the object that a call locks which frees the table is that whose door it takes along
 taken_is : (s : State) (c : Call) (carried : Carried) (object k : ℕ) (does : Deed) → TakesLocked → keeps_table c ≡ false
     → decided (seen s) c carried.moved ≡ Ok (decision.Locks object does) → door_taken s c carried ≡ Some k → object ≡ k
@@ -203,101 +175,86 @@ unfolding locked_object
 taken_is s c carried object k does takes frees is at =
     same_Some object k (sym (ap locks_of is) ∙ sym (takes s c carried frees) ∙ at)
 
--- a call that frees the table takes along a door that is there
-pub frees_names : (w : World) (c : Call) (carried : Carried) (r : Query) (n : ℕ) → DecidedSo → TakesLocked
-    → IsNumbered w → keeps_table c ≡ false → asks w.object c carried ≡ Some r
-    → numbered w (door_taken w.object c carried) ≡ Some n
-    → (k : ℕ) × (d : Door) × ((door_taken w.object c carried ≡ Some k)
-    × ((number_of w k ≡ n) × (fin.get w.object.objects k ≡ Some (DoorTo d))))
-frees_names w c carried r n law takes num frees asked at = by_way (goes_out law w.object c carried r asked).1
+-- the number of the door that a call takes along is that of an object that leads outside
+pub record TakesDoor (w : World) (c : Call) (carried : Carried) (n : ℕ) : Type 0 where
+  pub object : ℕ
+  pub door : Door
+  pub taken : door_taken w.object c carried ≡ Some object
+  pub number : number_of w object ≡ n
+  pub leads : LeadsOut w.object object door
+
+pub names_taken : (w : World) (c : Call) (carried : Carried) (n : ℕ) → IsNumbered w → (x : TakesDoor w c carried n)
+    → Names w n x.door
+names_taken w c carried n num x = subst (λ (m : ℕ). Names w m x.door) x.number
+    (names_own w x.object x.door num x.leads)
+
+-- so it is with each call that takes a door along; one that keeps the table takes a listener, which comes back
+pub takes_door : (w : World) (c : Call) (carried : Carried) (r : Query) (n : ℕ) → DecidedSo → TakesLocked
+    → asks w.object c carried ≡ Some r → numbered w (door_taken w.object c carried) ≡ Some n
+    → (x : TakesDoor w c carried n) × (keeps_table c ≡ true → (brings_back r.kind ≡ true) × (is_listener x.door ≡ true))
+takes_door w c carried r n law takes asked at = by_way went.1
   where
-    z : (k : ℕ) × ((door_taken w.object c carried ≡ Some k) × (number_of w k ≡ n))
-    z = number_taken w (door_taken w.object c carried) n at
+    went : (r.kind ≡ request_kind c) × GoesOut (seen w.object) c (decided (seen w.object) c carried.moved)
+    went = goes_out law w.object c carried r asked
 
     known : Shows w.object
     known = law.shows w.object
 
-    by_door : (which : End) (object : ℕ) → object ≡ z.0 → IsDoorAt w.object which object → (k : ℕ) × (d : Door)
-        × ((door_taken w.object c carried ≡ Some k)
-        × ((number_of w k ≡ n) × (fin.get w.object.objects k ≡ Some (DoorTo d))))
-    by_door which object same door =
-        (z.0, door.door, (z.1.0, (z.1.1, ap (fin.get w.object.objects) (sym same) ∙ door.there)))
+    Taken : Call → Type 0
+    Taken c = (x : TakesDoor w c carried n)
+        × (keeps_table c ≡ true → (brings_back r.kind ≡ true) × (is_listener x.door ≡ true))
 
-    by_way : GoesOut (seen w.object) c (decided (seen w.object) c carried.moved) → (k : ℕ) × (d : Door)
-        × ((door_taken w.object c carried ≡ Some k)
-        × ((number_of w k ≡ n) × (fin.get w.object.objects k ≡ Some (DoorTo d))))
+    by_door : (descriptor : ℤ) (at_it : Seen) (object : ℕ) (does : Deed) → keeps_table c ≡ false
+        → (let v = seen w.object in v.described descriptor ≡ Ok at_it) → at_it.object ≡ object
+        → leads_outside at_it.«end» ≡ true → decided (seen w.object) c carried.moved ≡ Ok (decision.Locks object does)
+        → Taken c
+    by_door descriptor at_it object does frees found own outside is =
+        let z = number_taken w (door_taken w.object c carried) n at in
+        let door = door_at w.object descriptor at_it z.0 known found
+        (own ∙ taken_is w.object c carried object z.0 does takes frees is z.1.0) outside in (
+          record { object = z.0; door = door.door; taken = z.1.0; number = z.1.1; leads = door.leads },
+          λ keeps. absurd (true≢false (sym keeps ∙ frees)),
+        )
+
+    by_call : (c : Call) (listener : Option ℕ) (new : NewDescriptor) → r.kind ≡ request_kind c
+        → IsOpening (seen w.object) c listener new → numbered w (door_taken w.object c carried) ≡ Some n → Taken c
+    by_call (call.HostOpen path access flags) listener new kind opens at = absurd (none-some n at)
+    by_call (call.TcpListen port) listener new kind opens at = absurd (none-some n at)
+    by_call (call.TcpConnect port) listener new kind opens at = absurd (none-some n at)
+    by_call (call.TcpAccept descriptor) listener new kind opens at =
+        let its = opens.takes in
+        let z = number_taken w (door_taken w.object (call.TcpAccept descriptor) carried) n at in
+        let y = known.described descriptor its.at its.found in
+        let same : (let e = y.description in e.object)
+        ≡ z.0 = same_Some (let e = y.description in e.object) z.0 (sym (ap object_found y.found) ∙ z.1.0) in
+        let door = door_at w.object descriptor its.at z.0 known its.found (sym y.object_is ∙ same) its.outside in
+        let l = a_listener its.at.«end» door.door door.which its.listens in (
+          record { object = z.0; door = door.door; taken = z.1.0; number = z.1.1; leads = door.leads },
+          λ keeps. (ap brings_back kind, ap is_listener l.1),
+        )
+    by_call c listener new kind opens at = absurd (false≢true opens.keeps)
+
+    by_way : GoesOut (seen w.object) c (decided (seen w.object) c carried.moved) → Taken c
     by_way (inl a) =
         let its = a.door in
-        by_door its.at.«end» a.object (taken_is w.object c carried a.object z.0 (deed.Asks a.blocks) takes frees a.is
-        z.1.0)
-        (door_of_seen w its.found.descriptor its.at a.object known num its.found.found its.object_is its.outside)
+        let free = transfer c a.stays in
+        by_door its.found.descriptor its.at a.object (deed.Asks a.blocks) free.frees its.found.found its.object_is
+        its.outside a.is
     by_way (inr (inl a)) =
         let its = a.last in
-        by_door its.at.«end» a.object (taken_is w.object c carried a.object z.0 (deed.Closes a.number a.key) takes frees
-        a.is z.1.0)
-        (door_of_seen w (pos a.number) its.at a.object known num its.found its.object_is its.outside)
-    by_way (inr (inr a)) = let opens = a.opens in absurd (true≢false (sym opens.keeps ∙ frees))
-
-listener_of : (d : Door) → is_listener d ≡ true → (port : ℕ) × (d ≡ door.Listener port)
-listener_of (door.Listener port) is = (port, refl)
-listener_of door.HostFile is = absurd (false≢true is)
-listener_of door.Stream is = absurd (false≢true is)
-
--- one that accepts takes along a listener
-accepts_at : (w : World) (descriptor : ℤ) (listener : Option ℕ) (k : ℕ) → Shows w.object → IsNumbered w
-    → IsListener (seen w.object) descriptor listener → object_found (described w.object descriptor) ≡ Some k
-    → (port : ℕ) × (fin.get w.object.objects k ≡ Some (DoorTo (door.Listener port)))
-accepts_at w descriptor listener k known num its taken =
-    let z = known.described descriptor its.at its.found in
-    let same : (let e = z.description in e.object)
-    ≡ k = same_Some (let e = z.description in e.object) k (sym (ap object_found z.found) ∙ taken) in
-    let door = door_of_seen w descriptor its.at k known num its.found (sym z.object_is ∙ same) its.outside in
-    let l = listener_of door.door (sym door.alike ∙ a_listener its.at.«end» its.listens) in
-    (l.0, door.there ∙ ap (λ (d : Door). Some (DoorTo d)) l.1)
-
--- one that keeps the table takes along a listener, or none
-pub keeps_names : (w : World) (c : Call) (carried : Carried) (r : Query) (n : ℕ) → DecidedSo → IsNumbered w
-    → keeps_table c ≡ true → asks w.object c carried ≡ Some r → numbered w (door_taken w.object c carried) ≡ Some n
-    → (port : ℕ) × Names w n (door.Listener port)
-keeps_names w c carried r n law num keeps asked at = by_way (goes_out law w.object c carried r asked).1
-  where
-    by_call : (c : Call) (listener : Option ℕ) (new : NewDescriptor) → IsOpening (seen w.object) c listener new
-        → numbered w (door_taken w.object c carried) ≡ Some n → (port : ℕ) × Names w n (door.Listener port)
-    by_call (call.HostOpen path access flags) listener new opens at = absurd (none-some n at)
-    by_call (call.TcpListen port) listener new opens at = absurd (none-some n at)
-    by_call (call.TcpConnect port) listener new opens at = absurd (none-some n at)
-    by_call (call.TcpAccept descriptor) listener new opens at =
-        let z = number_taken w (door_taken w.object (call.TcpAccept descriptor) carried) n at in
-        let p = accepts_at w descriptor listener z.0 (law.shows w.object) num opens.takes z.1.0 in
-        (p.0, subst (λ (m : ℕ). Names w m (door.Listener p.0)) z.1.1 (names_own w z.0 (door.Listener p.0) num p.1))
-    by_call c listener new opens at = absurd (false≢true opens.keeps)
-
-    by_way : GoesOut (seen w.object) c (decided (seen w.object) c carried.moved) → (port : ℕ)
-        × Names w n (door.Listener port)
-    by_way (inl a) = absurd (true≢false (sym keeps ∙ stays_free c a.stays))
-    by_way (inr (inl a)) = absurd (true≢false (sym keeps ∙ closes_free c a.closes))
-    by_way (inr (inr a)) = by_call c a.listener a.new a.opens at
+        by_door (pos a.number) its.at a.object (deed.Closes a.number a.key) (closes_free c a.closes).0 its.found
+        its.object_is its.outside a.is
+    by_way (inr (inr a)) = by_call c a.listener a.new went.0 a.opens at
 
 -- ## A call that was granted
 
-comes_back : (c : Call) → transfers c ≡ true → brings_back (request_kind c) ≡ true
-comes_back (call.Read descriptor count) is = refl
-comes_back (call.Write descriptor bytes) is = refl
-comes_back (call.Lseek descriptor offset whence) is = refl
-comes_back (call.Shutdown descriptor how) is = refl
-comes_back c is = absurd (false≢true is)
-
-same_door_to : (a b : Door) → Some (DoorTo a) ≡ Some (DoorTo b) → a ≡ b
-same_door_to a b h = cc
-
 -- its door's number is that of no listener after it, nor of any door where it closes
-pub granted_apart : (settings : Settings) (w : World) (c : Call) (carried : Carried) (r : Query) (n k : ℕ) (e d : Door)
+pub granted_apart : (settings : Settings) (w : World) (c : Call) (carried : Carried) (r : Query) (n : ℕ) (d : Door)
     → DecidedSo → TakesLocked → IsNumbered w → HaveOne w.object → asks w.object c carried ≡ Some r
-    → door_taken w.object c carried ≡ Some k → number_of w k ≡ n
-    → keeps_table c ≡ false → fin.get w.object.objects k ≡ Some (DoorTo e)
+    → keeps_table c ≡ false → TakesDoor w c carried n
     → (let stepped : Stepped = step settings w.object c None carried in Names (world_with w stepped.after) n d)
     → (is_listener d ≡ false) × (brings_back r.kind ≡ true)
-granted_apart settings w c carried r n k e d law takes num one asked taken number frees at named = by_way went.1
+granted_apart settings w c carried r n d law takes num one asked frees x named = by_way went.1
   where
     went : (r.kind ≡ request_kind c) × GoesOut (seen w.object) c (decided (seen w.object) c carried.moved)
     went = goes_out law w.object c carried r asked
@@ -309,33 +266,32 @@ granted_apart settings w c carried r n k e d law takes num one asked taken numbe
     after = let stepped : Stepped = step settings w.object c None carried in stepped.after
 
     adds : AddsNone w.object after
-    adds = step_adds_none law settings w.object c carried num.plain
+    adds = step_adds_none settings w.object c carried
 
-    slot : slice_index_or w.numbers n None ≡ Some k
-    slot = subst (λ (m : ℕ). slice_index_or w.numbers m None ≡ Some k) number (number_slot w k e num at)
+    slot : slice_index_or w.numbers n None ≡ Some x.object
+    slot = subst (λ (m : ℕ). slice_index_or w.numbers m None ≡ Some x.object) x.number
+        (number_slot w x.object x.door num x.leads)
 
     -- the door there is the one that was there
-    own_door : fin.get w.object.objects k ≡ Some (DoorTo d)
+    own_door : LeadsOut w.object x.object d
     own_door =
         let back = names_back w after n d num adds named in
-        ap (fin.get w.object.objects) (same_Some k back.0 (sym slot ∙ back.1.0)) ∙ back.1.1
+        subst (λ (k : ℕ). LeadsOut w.object k d) (same_Some back.0 x.object (sym back.1.0 ∙ slot)) back.1.1
 
     by_way : GoesOut (seen w.object) c (decided (seen w.object) c carried.moved) → (is_listener d ≡ false)
         × (brings_back r.kind ≡ true)
     by_way (inl a) =
         let its = a.door in
-        let same : a.object ≡ k = taken_is w.object c carried a.object k (deed.Asks a.blocks) takes frees a.is taken in
-        let door = door_of_seen w its.found.descriptor its.at k known num its.found.found (its.object_is ∙ same)
-        its.outside in
-        let own : door.door ≡ d = same_door_to door.door d (sym door.there ∙ own_door) in (
-          ap is_listener (sym own) ∙ sym door.alike ∙ no_listener its.at.«end» its.carries,
-          ap brings_back went.0 ∙ comes_back c a.stays,
+        let door = door_at w.object its.found.descriptor its.at x.object known its.found.found (its.object_is
+        ∙ taken_is w.object c carried a.object x.object (deed.Asks a.blocks) takes frees a.is x.taken) its.outside in (
+          ap is_listener (one_door w.object x.object d door.door one own_door door.leads)
+              ∙ no_listener its.at.«end» door.door door.which its.carries,
+          ap brings_back went.0 ∙ (let free = transfer c a.stays in free.returns),
         )
     by_way (inr (inl a)) =
-        let same : a.object ≡ k = taken_is w.object c carried a.object k (deed.Closes a.number a.key) takes frees a.is
-        taken in
-        let gone : fin.get after.objects k ≡ None =
-        subst (λ (m : ℕ). fin.get after.objects m ≡ None) same
-        (close_leaves settings w.object c carried e known num.plain one a (ap (fin.get w.object.objects) same ∙ at)) in
-        absurd (names_gone w after n k d num adds slot gone named)
+        let same : a.object ≡ x.object = taken_is w.object c carried a.object x.object (deed.Closes a.number a.key)
+        takes frees a.is x.taken in
+        absurd (names_gone w after n x.object d num adds slot
+        (λ later. close_leaves settings w.object c carried d known one a
+        (subst (λ (k : ℕ). LeadsOut after k d) (sym same) later)) named)
     by_way (inr (inr a)) = let opens = a.opens in absurd (true≢false (sym opens.keeps ∙ frees))

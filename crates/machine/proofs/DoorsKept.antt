@@ -7,7 +7,6 @@ use Rattle.std.proofs.lemmas.Bool.{cases_eq, cases_lt, false≢true, true≢fals
 use Rattle.std.proofs.lemmas.List.{get_or-set_other, get_or-set_same, get_or_past, length-set}
 use Rattle.std.proofs.lemmas.Option.{none-some, same_Some}
 use Rattle.lock_machine.specs.Conditions.{setup_under}
-use Rattle.lock_machine.specs.Requests.{AskTheirKind, IsOfKind}
 use Rattle.lock_machine.specs.Shows.{PhaseShows}
 use Rattle.lock_machine.specs.Whole.{Whole, settings_in, thread_at}
 use Rattle.lock_machine.specs.declared.thread.Phase.{Phase}
@@ -31,31 +30,28 @@ use Rattle.call_turns.specs.Errands.{door_taken}
 use Rattle.sequential_object.specs.Locked.{keeps_table, locked_object}
 use Rattle.std.specs.FinMap as fin
 use Rattle.std.specs.Ordering.{nat_cmp}
-use Rattle.sequential_object.specs.Object.{DoorTo, State}
+use Rattle.sequential_object.specs.Object.{State}
 use Rattle.sequential_object.specs.Step.{Carried, Stepped, asks, step}
 use Rattle.posix_terms.specs.Calls.{Call}
-use Rattle.posix_terms.specs.declared.call.Call.TheVariants as call
 use Rattle.posix_terms.specs.declared.limits.TheConstants.Limits as limit
 use Rattle.posix_terms.specs.declared.object.Door.{Door}
-use Rattle.posix_terms.specs.declared.object.Door.TheVariants as door
 use Rattle.posix_terms.specs.declared.outcome.Given.{Given}
-use Rattle.posix_terms.specs.declared.outcome.OutKind.TheVariants as kind
-use Rattle.posix_terms.specs.Queries.{Query}
 use Rattle.posix_terms.specs.declared.transcript.Settings.{Settings}
 use Rattle.lock_model.specs.RealLaws.{real_start}
 use Rattle.machine.specs.Runs.Coming.{Brings}
-use Rattle.machine.specs.Doors.{brings_back, is_ok, put, without}
+use Rattle.machine.specs.Doors.{is_ok, put, without}
 use Rattle.machine.specs.DoorLaws.{DoorLaws}
-use Rattle.machine.specs.DoorsThere.{DoorsThere, HaveOne, Names, comes_back, comes_back_of, door_of, is_listener}
-use Rattle.machine.specs.DoorsThere.{is_success, is_there, job_out}
+use Rattle.machine.specs.DoorsThere.{DoorsThere, HaveOne, IsHome, Names, Needs, comes_back, comes_back_of, door_of}
+use Rattle.machine.specs.DoorsThere.{is_listener, is_success, is_there, job_out}
+use Rattle.machine.specs.DoorsThere.Needs.{GoesWith, IsBorn, WasOpened}
 use Rattle.machine.specs.Runs.{Coming, IsEnd, setup_with, supply_with, terms_with}
 use Rattle.machine.proofs.DoorCalls.{OpensNext, opens_or_stays}
-use Rattle.machine.proofs.DoorEvents.{IsTried, late_none, late_of, left_by, moved_in, outside_behind}
-use Rattle.machine.proofs.DoorEvents.{recorded_behind, tried_as, world_changed, world_moved, world_same}
+use Rattle.machine.proofs.DoorEvents.{IsTried, goes_out, is_outside, is_recorded, late_none, late_of, left_by, moved_in}
+use Rattle.machine.proofs.DoorEvents.{outside_behind, recorded_behind, tried_as, world_changed, world_moved, world_same}
 use Rattle.machine.proofs.DoorEvents.IsTried.{Frees, Keeps, Makes, Waits}
-use Rattle.machine.proofs.DoorsHeld.{OutAt, frees_names, granted_apart, holds_kept, holds_object, in_of_out}
-use Rattle.machine.proofs.DoorsHeld.{keeps_names, one_object, one_table, out_at, plan_number}
-use Rattle.machine.proofs.Naming.{IsNumbered, names_back, object_with, names_opened, names_own, names_within}
+use Rattle.machine.proofs.DoorsHeld.{OutAt, granted_apart, holds_kept, holds_object, in_of_out, names_taken}
+use Rattle.machine.proofs.DoorsHeld.{one_object, one_table, out_at, plan_number, takes_door}
+use Rattle.machine.proofs.Naming.{IsNumbered, names_back, object_with, names_opened, names_within}
 use Rattle.machine.proofs.Naming.{numbered_by, one_adds, one_opens}
 use Rattle.machine.proofs.NoNewDoors.{AddsNone, adds_none, step_adds_none}
 
@@ -88,14 +84,24 @@ found_kept : (w : Whole) (s : lock.State) (i : ℕ) (job : Job) → At w s → j
 found_kept w s i job at is o keeps = let plans = at.plans in
     plans.kept i job (in_of_out (thread_of s i).phase job is) (o.keeps ∙ keeps)
 
+-- a call that keeps the table has taken along a listener
 listener_at : (w : Whole) (s : lock.State) (i n : ℕ) (job : Job) → DoorLaws → At w s
     → job_out (thread_of s i).phase ≡ Some job → OutAt s i job → keeps_table job.call ≡ true → door_of job ≡ Some n
-    → (port : ℕ) × Names s.world n (door.Listener port)
+    → (comes_back job ≡ true) × ((d : Door) × (Names s.world n d × (is_listener d ≡ true)))
 listener_at w s i n job laws at is o keeps at_door =
     let found = found_kept w s i job at is o keeps in
-    keeps_names s.world job.call job.carried o.request n laws.so at.num keeps
+    let x = takes_door s.world job.call job.carried o.request n laws.so laws.takes
     (subst (λ (x : World). asks x.object job.call job.carried ≡ Some o.request) found o.asked)
-    (subst (λ (x : World). numbered x (door_taken x.object job.call job.carried) ≡ Some n) found at_door)
+    (subst (λ (x : World). numbered x (door_taken x.object job.call job.carried) ≡ Some n) found at_door) in
+    let its = x.1 keeps in
+    (ap comes_back_of o.asked ∙ its.0, (x.0.door, (names_taken s.world job.call job.carried n at.num x.0, its.1)))
+
+-- which none is that a call takes along which freed the table
+no_listener : (D : Type 0) (s : lock.State) (doors : List (Option D)) (k n : ℕ) (other : Job) (d : Door)
+    → DoorsThere D s doors → job_out (thread_of s k).phase ≡ Some other → keeps_table other.call ≡ false
+    → door_of other ≡ Some n → Names s.world n d → is_listener d ≡ true → ⊥
+no_listener D s doors k n other d h is frees at named listens =
+    true≢false (sym listens ∙ (h.apart k n other d is frees at named).0)
 
 by_bool : {A : Type 0} (b : Bool) → (b ≡ true → A) → (b ≡ false → A) → A
 by_bool true t f = t refl
@@ -115,11 +121,11 @@ exclusive D w s doors i k n job other laws at h is_i is_k door_i door_k =
     by_bool (keeps_table job.call)
     (λ keeps. by_bool (keeps_table other.call)
     (λ also. one_table s i k (holds_kept s i job at.held a keeps) (holds_kept s k other at.held b also))
-    (λ frees. let l = listener_at w s i n job laws at is_i a keeps door_i in
-    absurd (true≢false (h.apart k n other (door.Listener l.0) is_k frees door_k l.1).0)))
+    (λ frees. let l = (listener_at w s i n job laws at is_i a keeps door_i).1 in
+    absurd (no_listener D s doors k n other l.0 h is_k frees door_k l.1.0 l.1.1)))
     (λ frees. by_bool (keeps_table other.call)
-    (λ keeps. let l = listener_at w s k n other laws at is_k b keeps door_k in
-    absurd (true≢false (h.apart i n job (door.Listener l.0) is_i frees door_i l.1).0))
+    (λ keeps. let l = (listener_at w s k n other laws at is_k b keeps door_k).1 in
+    absurd (no_listener D s doors i n job l.0 h is_i frees door_i l.1.0 l.1.1))
     (λ also. one_object s i k n (holds_object s i n job at.held at.count a (own_object s i n job a frees door_i))
     (holds_object s k n other at.held at.count b (own_object s k n other b also door_k))))
 
@@ -136,116 +142,113 @@ back_phase : (s z : lock.State) (i k : ℕ) (p : lock.Phase) → Others s z i �
     → (thread_of z k).phase ≡ p
 back_phase s z i k p o apart is = ap (λ (t : lock.Thread). t.phase) (o.same k apart) ∙ is
 
-abbrev IsOutWith : lock.State → ℕ → Type 0
-IsOutWith s n = (i : ℕ) × (job : Job) × (((thread_of s i).phase ≡ Outside job) × (door_of job ≡ Some n))
-
--- what an event has to keep
-record Keeping (D : Type 0) (s z : lock.State) (i : ℕ) (doors later : List (Option D)) : Type 0 where
-  others : Others s z i
-  objects : (n : ℕ) (d : Door) → Names z.world n d → is_there later n ≡ false → (j : ℕ) × (job : Job)
-      × (((thread_of z j).phase ≡ Outside job) × (door_of job ≡ Some n))
-  going : (k n : ℕ) (job : Job) → (i ≡ k → ⊥) → (thread_of s k).phase ≡ ToOutside job → door_of job ≡ Some n
-      → is_there doors n ≡ true → is_there later n ≡ true
-  opened : (k n : ℕ) (job : Job) → (i ≡ k → ⊥) → (thread_of s k).phase ≡ Recorded job → keeps_table job.call ≡ true
-      → object_in job.plan ≡ Some n → is_there doors n ≡ true → is_there later n ≡ true
-  names : (k n : ℕ) (job : Job) (d : Door) → (i ≡ k → ⊥) → job_out (thread_of s k).phase ≡ Some job
-      → keeps_table job.call ≡ false → door_of job ≡ Some n → Names z.world n d → Names s.world n d
-  own_going : (n : ℕ) (job : Job) → (thread_of z i).phase ≡ ToOutside job → door_of job ≡ Some n
-      → is_there later n ≡ true
-  own_opened : (n : ℕ) (job : Job) → (thread_of z i).phase ≡ Recorded job → keeps_table job.call ≡ true
-      → is_success (outcome_in job.outcome) ≡ true → object_in job.plan ≡ Some n → is_there later n ≡ true
-  own_apart : (n : ℕ) (job : Job) (d : Door) → job_out (thread_of z i).phase ≡ Some job → keeps_table job.call ≡ false
-      → door_of job ≡ Some n → Names z.world n d → (is_listener d ≡ false) × (comes_back job ≡ true)
-  single : HaveOne z.world.object
-
-doors_by : (D : Type 0) (s z : lock.State) (i : ℕ) (doors later : List (Option D)) → DoorsThere D s doors
-    → Keeping D s z i doors later → DoorsThere D z later
-doors_by D s z i doors later h g =
-    record {
-      objects = g.objects;
-      going = λ k n job is at. ⊎_elim
-          (λ (same : i ≡ k). g.own_going n job (subst (λ (m : ℕ). (thread_of z m).phase ≡ ToOutside job) (sym same) is)
-          at) (λ (apart : i ≡ k → ⊥). let was = phase_of s z i k (ToOutside job) g.others apart is in
-          g.going k n job apart was at (h.going k n job was at)) (cases_eq i k);
-      opened = λ k n job is keeps ok at.
-          ⊎_elim (λ (same : i ≡ k). g.own_opened n job
-          (subst (λ (m : ℕ). (thread_of z m).phase ≡ Recorded job) (sym same) is) keeps ok at)
-          (λ (apart : i ≡ k → ⊥). let was = phase_of s z i k (Recorded job) g.others apart is in
-          g.opened k n job apart was keeps at (h.opened k n job was keeps ok at)) (cases_eq i k);
-      apart = λ k n job d is frees at named.
-          ⊎_elim (λ (same : i ≡ k). g.own_apart n job d
-          (subst (λ (m : ℕ). job_out (thread_of z m).phase ≡ Some job) (sym same) is) frees at named)
-          (λ (apart : i ≡ k → ⊥).
-          let was : job_out (thread_of s k).phase
-          ≡ Some job = ap (λ (t : lock.Thread). job_out t.phase) (sym (let o = g.others in o.same k apart))
-          ∙ is in h.apart k n job d was frees at (g.names k n job d apart was frees at named)) (cases_eq i k);
-      single = g.single;
-    }
-
 out_of_phase : {A : Type 0} (p q : lock.Phase) (job : Job) → job_out p ≡ None → p ≡ q → job_out q ≡ Some job → A
 out_of_phase p q job none is some = absurd (none-some job (sym none ∙ ap job_out is ∙ some))
 
+-- thread i is not outside with this door
+abbrev NotWith : lock.State → ℕ → ℕ → Type 0
+NotWith s i n = (job : Job) → (thread_of s i).phase ≡ Outside job → door_of job ≡ Some n → ⊥
+
+-- by an event of thread i nobody else goes outside
+home_back : (s z : lock.State) (i n : ℕ) → Others s z i → NotWith s i n → IsHome z n → IsHome s n
+home_back s z i n others own home k job there at =
+    ⊎_elim
+    (λ (same : i ≡ k). own job (ap (λ (m : ℕ). (thread_of s m).phase) same ∙ there) at)
+    (λ (apart : i ≡ k → ⊥). home k job (back_phase s z i k (Outside job) others apart there) at)
+    (cases_eq i k)
+
+-- what has to be there after an event of thread i had to before, or is the event's own
+needs_by : {A : Type 0} (s z : lock.State) (i n : ℕ) → Others s z i
+    → ((d : Door) → Names z.world n d → IsHome z n → A)
+    → ((job : Job) → (thread_of z i).phase ≡ ToOutside job → door_of job ≡ Some n → A)
+    → ((job : Job) → (thread_of z i).phase ≡ Recorded job → keeps_table job.call ≡ true
+    → is_success (outcome_in job.outcome) ≡ true → object_in job.plan ≡ Some n → A)
+    → (Needs s n → A) → Needs z n → A
+needs_by s z i n others born goes opened still (IsBorn d named home) = born d named home
+needs_by s z i n others born goes opened still (GoesWith k job there at) =
+    ⊎_elim
+    (λ (same : i ≡ k). goes job (ap (λ (m : ℕ). (thread_of z m).phase) same ∙ there) at)
+    (λ (apart : i ≡ k → ⊥). still (GoesWith k job (phase_of s z i k (ToOutside job) others apart there) at))
+    (cases_eq i k)
+needs_by s z i n others born goes opened still (WasOpened k job there keeps ok at) =
+    ⊎_elim
+    (λ (same : i ≡ k). opened job (ap (λ (m : ℕ). (thread_of z m).phase) same ∙ there) keeps ok at)
+    (λ (apart : i ≡ k → ⊥). still (WasOpened k job (phase_of s z i k (Recorded job) others apart there) keeps ok at))
+    (cases_eq i k)
+
+-- a call of another thread is as far apart as before, where no number of its door is new
+apart_by : (D : Type 0) (s z : lock.State) (i : ℕ) (doors : List (Option D)) → Others s z i → DoorsThere D s doors
+    → ((k n : ℕ) (job : Job) (d : Door) → (i ≡ k → ⊥) → job_out (thread_of s k).phase ≡ Some job
+    → keeps_table job.call ≡ false → door_of job ≡ Some n → Names z.world n d → Names s.world n d)
+    → ((n : ℕ) (job : Job) (d : Door) → job_out (thread_of z i).phase ≡ Some job → keeps_table job.call ≡ false
+    → door_of job ≡ Some n → Names z.world n d → (is_listener d ≡ false) × (comes_back job ≡ true))
+    → (k n : ℕ) (job : Job) (d : Door) → job_out (thread_of z k).phase ≡ Some job → keeps_table job.call ≡ false
+    → door_of job ≡ Some n → Names z.world n d → (is_listener d ≡ false) × (comes_back job ≡ true)
+apart_by D s z i doors others h names own k n job d is frees at named =
+    ⊎_elim
+    (λ (same : i ≡ k). own n job d (ap (λ (m : ℕ). job_out (thread_of z m).phase) same ∙ is) frees at named)
+    (λ (apart : i ≡ k → ⊥).
+    let was : job_out (thread_of s k).phase
+    ≡ Some job = ap (λ (t : lock.Thread). job_out t.phase) (sym (others.same k apart)) ∙ is in
+    h.apart k n job d was frees at (names k n job d apart was frees at named))
+    (cases_eq i k)
+
 -- ## Events that bring no outcome
 
--- nobody is outside by another thread than that of the event, and it names no new door
-still_out : (s z : lock.State) (i n : ℕ) → Others s z i → ((job : Job) → (thread_of s i).phase ≡ Outside job → ⊥)
-    → IsOutWith s n → IsOutWith z n
-still_out s z i n others inside (k, job, (is, at)) =
-    let apart : i ≡ k → ⊥ = λ same. inside job (ap (λ (m : ℕ). (thread_of s m).phase) same ∙ is) in
-    (k, job, (back_phase s z i k (Outside job) others apart is, at))
-
+-- no call of the thread is outside, and no new door is named
 settled : (D : Type 0) (s z : lock.State) (i : ℕ) (doors : List (Option D)) → Others s z i
-    → ((job : Job) → (thread_of s i).phase ≡ Outside job → ⊥)
-    → ((n : ℕ) (d : Door) → Names z.world n d → Names s.world n d) → HaveOne z.world.object
-    → job_out (thread_of z i).phase ≡ None → DoorsThere D s doors → DoorsThere D z doors
+    → ((n : ℕ) → NotWith s i n) → ((n : ℕ) (d : Door) → Names z.world n d → Names s.world n d)
+    → HaveOne z.world.object → job_out (thread_of z i).phase ≡ None → DoorsThere D s doors → DoorsThere D z doors
 settled D s z i doors others inside back one none h =
-    doors_by D s z i doors doors h (record {
-      others = others;
-      objects = λ n d named empty. still_out s z i n others inside (h.objects n d (back n d named) empty);
-      going = λ k n job apart is at there. there;
-      opened = λ k n job apart is keeps at there. there;
-      names = λ k n job d apart is frees at named. back n d named;
-      own_going = λ n job is at. out_of_phase (thread_of z i).phase (ToOutside job) job none is refl;
-      own_opened = λ n job is keeps ok at. out_of_phase (thread_of z i).phase (Recorded job) job none is refl;
-      own_apart = λ n job d is frees at named. out_of_phase (thread_of z i).phase (thread_of z i).phase job none refl
-          is;
+    record {
+      needed = λ n x. h.needed n (needs_by s z i n others
+          (λ d named home. IsBorn d (back n d named) (home_back s z i n others (inside n) home))
+          (λ job there at. out_of_phase (thread_of z i).phase (ToOutside job) job none there refl)
+          (λ job there keeps ok at. out_of_phase (thread_of z i).phase (Recorded job) job none there refl)
+          (λ still. still) x);
+      apart = apart_by D s z i doors others h (λ k n job d apart is frees at named. back n d named)
+          (λ n job d is frees at named. out_of_phase (thread_of z i).phase (thread_of z i).phase job none refl is);
       single = one;
-    })
+    }
 
 -- the call that was granted goes outside
 goes : (D : Type 0) (s z : lock.State) (i : ℕ) (job : Job) (doors : List (Option D)) → Others s z i
-    → ((x : Job) → (thread_of s i).phase ≡ Outside x → ⊥) → ((n : ℕ) (d : Door) → Names z.world n d → Names s.world n d)
-    → HaveOne z.world.object → (thread_of z i).phase ≡ ToOutside job
-    → ((n : ℕ) → door_of job ≡ Some n → is_there doors n ≡ true)
+    → ((n : ℕ) → NotWith s i n) → ((n : ℕ) (d : Door) → Names z.world n d → Names s.world n d) → HaveOne z.world.object
+    → (thread_of z i).phase ≡ ToOutside job → ((n : ℕ) → door_of job ≡ Some n → Needs s n)
     → ((n : ℕ) (d : Door) → keeps_table job.call ≡ false → door_of job ≡ Some n → Names z.world n d
     → (is_listener d ≡ false) × (comes_back job ≡ true)) → DoorsThere D s doors → DoorsThere D z doors
 goes D s z i job doors others inside back one there goes_there apart_there h =
-    doors_by D s z i doors doors h (record {
-      others = others;
-      objects = λ n d named empty. still_out s z i n others inside (h.objects n d (back n d named) empty);
-      going = λ k n x apart is at old. old;
-      opened = λ k n x apart is keeps at old. old;
-      names = λ k n x d apart is frees at named. back n d named;
-      own_going = λ n x is at. goes_there n (ap door_of (same_Some job x (ap job_out (sym there ∙ is))) ∙ at);
-      own_opened = λ n x is keeps ok at. absurd (true≢false (ap is_going (sym there ∙ is)));
-      own_apart = λ n x d is frees at named.
-          let same : job ≡ x = same_Some job x (sym (ap job_out there) ∙ is) in
+    record {
+      needed = λ n x. h.needed n (needs_by s z i n others
+          (λ d named home. IsBorn d (back n d named) (home_back s z i n others (inside n) home))
+          (λ y is at. goes_there n (ap door_of (same_Some job y (ap job_out (sym there ∙ is))) ∙ at))
+          (λ y is keeps ok at. absurd (true≢false (ap goes_out (sym there ∙ is))))
+          (λ still. still) x);
+      apart = apart_by D s z i doors others h (λ k n y d apart is frees at named. back n d named)
+          (λ n y d is frees at named.
+          let same : job ≡ y = same_Some job y (sym (ap job_out there) ∙ is) in
           let r = apart_there n d (ap (λ (j : Job). keeps_table j.call) same ∙ frees) (ap door_of same ∙ at) named in
-          (r.0, ap comes_back (sym same) ∙ r.1);
+          (r.0, ap comes_back (sym same) ∙ r.1));
       single = one;
-    })
-  where
-    is_going : lock.Phase → Bool
-    is_going (ToOutside x) = true
-    is_going p = false
+    }
 
--- a call that frees the table finds its door
-frees_there : (D : Type 0) (old new : Whole) (s z : lock.State) (i n : ℕ) (job : Job) (doors : List (Option D))
-    → DoorLaws → At old s → At new z → Others s z i → ((x : Job) → (thread_of s i).phase ≡ Outside x → ⊥)
-    → is_number s.table.holder i ≡ true → (thread_of z i).phase ≡ ToOutside job → job.found ≡ s.world
-    → DoorsThere D s doors → door_of job ≡ Some n → is_there doors n ≡ true
-frees_there D old new s z i n job doors laws at later others inside holds there found h at_door =
-    by_bool (is_there doors n) (λ is. is) (λ empty. absurd (by_keeps (keeps_table job.call) refl empty))
+-- it finds its door: whoever were outside with it would hold a lock that thread i has
+found_there : (D : Type 0) (old new : Whole) (s z : lock.State) (i n : ℕ) (job : Job) (doors : List (Option D))
+    → DoorLaws → At old s → At new z → Others s z i → NotWith s i n → is_number s.table.holder i ≡ true
+    → (thread_of z i).phase ≡ ToOutside job → job.found ≡ s.world → DoorsThere D s doors → door_of job ≡ Some n
+    → Needs s n
+found_there D old new s z i n job doors laws at later others inside holds there found h at_door =
+    let x = takes_door s.world job.call job.carried mine.request n laws.so laws.takes asked number in
+    let named = names_taken s.world job.call job.carried n at.num x.0 in
+    IsBorn x.0.door named (home (λ k y apart is frees_y at_y. by_bool (keeps_table job.call)
+    (λ keeps. no_listener D s doors k n y x.0.door h is frees_y at_y named (x.1 keeps).1)
+    (λ frees.
+    let now : job_out (thread_of z k).phase ≡ Some y =
+    ap (λ (t : lock.Thread). job_out t.phase) (others.same k apart) ∙ is in
+    let theirs = out new z k y laws later now in
+    apart (one_object z i k n
+    (holds_object z i n job later.held later.count mine (own_object z i n job mine frees at_door))
+    (holds_object z k n y later.held later.count theirs (own_object z k n y theirs frees_y at_y))))))
   where
     mine : OutAt z i job
     mine = out new z i job laws later (ap job_out there)
@@ -256,40 +259,17 @@ frees_there D old new s z i n job doors laws at later others inside holds there 
     number : numbered s.world (door_taken s.world.object job.call job.carried) ≡ Some n
     number = subst (λ (x : World). numbered x (door_taken x.object job.call job.carried) ≡ Some n) found at_door
 
-    -- whoever is outside with it holds a lock that thread i has
-    nobody : (d : Door) → ((k : ℕ) (x : Job) → (i ≡ k → ⊥) → job_out (thread_of s k).phase ≡ Some x
-        → keeps_table x.call ≡ false → door_of x ≡ Some n → Names s.world n d → ⊥) → Names s.world n d
-        → is_there doors n ≡ false → ⊥
-    nobody d frees_not named empty =
-        let x = h.objects n d named empty in
-        let k = x.0 in
-        let job_k = x.1 in
-        let apart : i ≡ k → ⊥ = λ same. inside job_k (ap (λ (m : ℕ). (thread_of s m).phase) same ∙ x.2.0) in
-        let is : job_out (thread_of s k).phase ≡ Some job_k = ap job_out x.2.0 in
-        let theirs = out old s k job_k laws at is in
-        by_bool (keeps_table job_k.call)
-        (λ keeps. apart (one_table s i k holds (holds_kept s k job_k at.held theirs keeps)))
-        (λ frees. frees_not k job_k apart is frees x.2.1 named)
-
-    by_keeps : (b : Bool) → keeps_table job.call ≡ b → is_there doors n ≡ false → ⊥
-    by_keeps true keeps empty =
-        let l = keeps_names s.world job.call job.carried mine.request n laws.so at.num keeps asked number in
-        nobody (door.Listener l.0) (λ k x apart is frees at_x named. true≢false
-        (h.apart k n x (door.Listener l.0) is frees at_x named).0) l.1 empty
-    by_keeps false frees empty =
-        let f = frees_names s.world job.call job.carried mine.request n laws.so laws.takes at.num frees asked number in
-        let named : Names s.world n f.1 = subst (λ (m : ℕ). Names s.world m f.1) f.2.1.0 (names_of f.0 f.1 f.2.1.1) in
-        nobody f.1 (λ k x apart is frees_x at_x m.
-        let held_i = holds_object z i n job later.held later.count mine (own_object z i n job mine frees at_door) in
-        let now : job_out (thread_of z k).phase ≡ Some x =
-        ap (λ (t : lock.Thread). job_out t.phase) (others.same k apart) ∙ is in
-        let theirs = out new z k x laws later now in
-        apart (one_object z i k n held_i
-        (holds_object z k n x later.held later.count theirs (own_object z k n x theirs frees_x at_x)))) named empty
-      where
-        names_of : (k : ℕ) (d : Door) → fin.get s.world.object.objects k ≡ Some (DoorTo d)
-            → Names s.world (number_of s.world k) d
-        names_of k d is = names_own s.world k d at.num is
+    home : ((k : ℕ) (y : Job) → (i ≡ k → ⊥) → job_out (thread_of s k).phase ≡ Some y → keeps_table y.call ≡ false
+        → door_of y ≡ Some n → ⊥) → IsHome s n
+    home frees_not k y there at_y =
+        ⊎_elim
+        (λ (same : i ≡ k). inside y (ap (λ (m : ℕ). (thread_of s m).phase) same ∙ there) at_y)
+        (λ (apart : i ≡ k → ⊥).
+        let is : job_out (thread_of s k).phase ≡ Some y = ap job_out there in
+        by_bool (keeps_table y.call)
+        (λ keeps. apart (one_table s i k holds (holds_kept s k y at.held (out old s k y laws at is) keeps)))
+        (λ frees. frees_not k y apart is frees at_y))
+        (cases_eq i k)
 
 -- ## `begin_outside`
 
@@ -297,81 +277,63 @@ there_other : (D : Type 0) (doors : List (Option D)) (m n : ℕ) (o : Option D) 
     → is_there (set doors m o) n ≡ is_there doors n
 there_other D doors m n o apart = ap is_some (get_or-set_other doors m n o None apart)
 
+without_other : (D : Type 0) (doors : List (Option D)) (o : Option ℕ) (n : ℕ) → (o ≡ Some n → ⊥)
+    → is_there doors n ≡ true → is_there (without doors o) n ≡ true
+without_other D doors None n apart old = old
+without_other D doors (Some m) n apart old = there_other D doors m n None (λ same. apart (ap Some (sym same))) ∙ old
+
 -- the door goes out with its thread
 begun : (D : Type 0) (w : Whole) (s z : lock.State) (i : ℕ) (job : Job) (doors : List (Option D)) → DoorLaws → At w s
     → Others s z i → z.world ≡ s.world → (thread_of s i).phase ≡ ToOutside job → (thread_of z i).phase ≡ Outside job
     → DoorsThere D s doors
     → DoorsThere D z (without doors (door_of job))
-begun D w s z i job doors laws at others same is now h = by_number (door_of job) refl
+begun D w s z i job doors laws at others same is now h =
+    record {
+      needed = λ n x. without_other D doors (door_of job) n (λ mine. taken n mine x) (h.needed n (back n x));
+      apart = apart_by D s z i doors others h (λ k n y d apart there frees number named. named_back n d named)
+          (λ n y d there frees number named.
+          let own : job ≡ y = same_Some job y (sym (ap job_out now) ∙ there) in
+          let r = h.apart i n job d (ap job_out is) (ap (λ (j : Job). keeps_table j.call) own ∙ frees)
+          (ap door_of own ∙ number) (named_back n d named) in
+          (r.0, ap comes_back (sym own) ∙ r.1));
+      single = subst (λ (x : World). HaveOne x.object) (sym same) h.single;
+    }
   where
-    inside : (x : Job) → (thread_of s i).phase ≡ Outside x → ⊥
-    inside x there = true≢false (ap is_going (sym is ∙ there))
-      where
-        is_going : lock.Phase → Bool
-        is_going (ToOutside y) = true
-        is_going p = false
+    named_back : (n : ℕ) (d : Door) → Names z.world n d → Names s.world n d
+    named_back n d named = subst (λ (x : World). Names x n d) same named
 
-    back : (n : ℕ) (d : Door) → Names z.world n d → Names s.world n d
-    back n d named = subst (λ (x : World). Names x n d) same named
+    by_own : {A : Type 0} (n : ℕ) → ((d : Door) → Names z.world n d → IsHome z n → A) → (Needs s n → A) → Needs z n → A
+    by_own n born still x = needs_by s z i n others born
+        (λ y there number. absurd (true≢false (ap is_outside (sym now ∙ there))))
+        (λ y there keeps ok number. absurd (true≢false (ap is_outside (sym now ∙ there)))) still x
 
-    by_others : (later : List (Option D))
-        → ((n : ℕ) (d : Door) → Names s.world n d → is_there later n ≡ false → IsOutWith z n)
-        → ((k n : ℕ) (x : Job) → (i ≡ k → ⊥) → (thread_of s k).phase ≡ ToOutside x → door_of x ≡ Some n
-        → is_there doors n ≡ true → is_there later n ≡ true)
-        → ((k n : ℕ) (x : Job) → (i ≡ k → ⊥) → (thread_of s k).phase ≡ Recorded x → keeps_table x.call ≡ true
-        → object_in x.plan ≡ Some n → is_there doors n ≡ true → is_there later n ≡ true) → DoorsThere D z later
-    by_others later objects going opened =
-        doors_by D s z i doors later h (record {
-          others = others;
-          objects = λ n d named empty. objects n d (back n d named) empty;
-          going = going;
-          opened = opened;
-          names = λ k n x d apart there frees number named. back n d named;
-          own_going = λ n x there number. absurd (true≢false (ap is_out (sym now ∙ there)));
-          own_opened = λ n x there keeps ok number. absurd (true≢false (ap is_out (sym now ∙ there)));
-          own_apart = λ n x d there frees number named.
-              let own : job ≡ x = same_Some job x (sym (ap job_out now) ∙ there) in
-              let r = h.apart i n job d (ap job_out is) (ap (λ (j : Job). keeps_table j.call) own ∙ frees)
-              (ap door_of own ∙ number) (back n d named) in
-              (r.0, ap comes_back (sym own) ∙ r.1);
-          single = subst (λ (x : World). HaveOne x.object) (sym same) h.single;
-        })
-      where
-        is_out : lock.Phase → Bool
-        is_out (Outside y) = true
-        is_out p = false
+    back : (n : ℕ) → Needs z n → Needs s n
+    back n x = by_own n
+        (λ d named home. IsBorn d (named_back n d named) (home_back s z i n others
+        (λ y there number. true≢false (ap goes_out (sym is ∙ there))) home)) (λ still. still) x
 
-    by_number : (o : Option ℕ) → door_of job ≡ o → DoorsThere D z (without doors o)
-    by_number None none = by_others doors
-        (λ n d named empty. still_out s z i n others inside (h.objects n d named empty))
-        (λ k n x apart there number old. old) (λ k n x apart there keeps number old. old)
-    by_number (Some m) mine =
-        by_others (set doors m None)
-        (λ n d named empty. ⊎_elim
-        (λ (own : n ≡ m). (i, job, (now, mine ∙ ap Some (sym own))))
-        (λ (apart : n ≡ m → ⊥). still_out s z i n others inside
-        (h.objects n d named (sym (there_other D doors m n None apart) ∙ empty)))
-        (cases_eq n m))
-        (λ k n x apart there number old. ⊎_elim
-        (λ (own : n ≡ m). absurd (apart
-        (exclusive D w s doors i k n job x laws at h (ap job_out is) (ap job_out there) (mine ∙ ap Some (sym own))
-        number)))
-        (λ (other : n ≡ m → ⊥). there_other D doors m n None other ∙ old)
-        (cases_eq n m))
-        (λ k n x apart there keeps number old. ⊎_elim
-        (λ (own : n ≡ m). absurd (apart (by_own k n x there keeps number (mine ∙ ap Some (sym own)))))
-        (λ (other : n ≡ m → ⊥). there_other D doors m n None other ∙ old)
-        (cases_eq n m))
-      where
-        by_own : (k n : ℕ) (x : Job) → (thread_of s k).phase ≡ Recorded x → keeps_table x.call ≡ true
-            → object_in x.plan ≡ Some n → door_of job ≡ Some n → i ≡ k
-        by_own k n x there keeps number own =
-            let a = out w s i job laws at (ap job_out is) in
-            let b = out w s k x laws at (ap job_out there) in
-            by_bool (keeps_table job.call)
-            (λ also. one_table s i k (holds_kept s i job at.held a also) (holds_kept s k x at.held b keeps))
-            (λ frees. one_object s i k n (holds_object s i n job at.held at.count a
-            (own_object s i n job a frees own)) (holds_object s k n x at.held at.count b number))
+    -- its door is nobody else's
+    taken : (n : ℕ) → door_of job ≡ Some n → Needs z n → ⊥
+    taken n mine (IsBorn d named home) = home i job now mine
+    taken n mine (GoesWith k y there number) =
+        ⊎_elim
+        (λ (own : i ≡ k). true≢false (ap is_outside (sym now ∙ ap (λ (m : ℕ). (thread_of z m).phase) own ∙ there)))
+        (λ (apart : i ≡ k → ⊥). apart (exclusive D w s doors i k n job y laws at h (ap job_out is)
+        (ap job_out (phase_of s z i k (ToOutside y) others apart there)) mine number))
+        (cases_eq i k)
+    taken n mine (WasOpened k y there keeps ok number) =
+        ⊎_elim
+        (λ (own : i ≡ k). true≢false (ap is_outside (sym now ∙ ap (λ (m : ℕ). (thread_of z m).phase) own ∙ there)))
+        (λ (apart : i ≡ k → ⊥).
+        let was : job_out (thread_of s k).phase
+        ≡ Some y = ap job_out (phase_of s z i k (Recorded y) others apart there) in
+        let a = out w s i job laws at (ap job_out is) in
+        let b = out w s k y laws at was in
+        apart (by_bool (keeps_table job.call)
+        (λ also. one_table s i k (holds_kept s i job at.held a also) (holds_kept s k y at.held b keeps))
+        (λ frees. one_object s i k n (holds_object s i n job at.held at.count a
+        (own_object s i n job a frees mine)) (holds_object s k n y at.held at.count b number))))
+        (cases_eq i k)
 
 -- ## `record`
 
@@ -404,17 +366,11 @@ put_count D doors (Some n) None = refl
 put_count D doors None (Some d) = refl
 put_count D doors None None = refl
 
--- a call that keeps the table and takes a door along brings it back
-accept_back : (s : State) (c : Call) (carried : Carried) (r : Query) → AskTheirKind → asks s c carried ≡ Some r
-    → keeps_table c ≡ true → is_some (door_taken s c carried) ≡ true → comes_back_of (asks s c carried) ≡ true
-accept_back s (call.TcpAccept descriptor) carried r kinds is keeps some =
-    let of : Some r.kind ≡ Some kind.Accept =
-    subst (IsOfKind (Some kind.Accept)) is (kinds s (call.TcpAccept descriptor) carried) in
-    ap comes_back_of is ∙ ap brings_back (same_Some r.kind kind.Accept of)
-accept_back s (call.HostOpen path access flags) carried r kinds is keeps some = absurd (false≢true some)
-accept_back s (call.TcpListen port) carried r kinds is keeps some = absurd (false≢true some)
-accept_back s (call.TcpConnect port) carried r kinds is keeps some = absurd (false≢true some)
-accept_back s c carried r kinds is keeps some = absurd (false≢true keeps)
+-- whether a number is this one
+is_this : (o : Option ℕ) (n : ℕ) → (o ≡ Some n) ⊎ (o ≡ Some n → ⊥)
+is_this None n = inr (λ e. none-some n e)
+is_this (Some m) n = ⊎_elim (λ (same : m ≡ n). inl (ap Some same))
+    (λ (apart : m ≡ n → ⊥). inr (λ e. apart (same_Some m n e))) (cases_eq m n)
 
 -- the door comes back, and that which was opened has its place
 came_back : (D : Type 0) (w : Whole) (s z : lock.State) (i n : ℕ) (job : Job) (g : Given) (doors : List (Option D))
@@ -424,43 +380,25 @@ came_back : (D : Type 0) (w : Whole) (s z : lock.State) (i n : ℕ) (job : Job) 
     → (keeps_table job.call ≡ true → is_ok g.outcome ≡ true → is_some opened ≡ true) → DoorsThere D s doors
     → DoorsThere D z (put (put doors (door_of job) back) (Some n) opened)
 came_back D w s z i n job g doors back opened laws at others same is now size own comes opens h =
-    doors_by D s z i doors later h (record {
-      others = others;
-      objects = λ m d named empty. by_old m d (named_back m d named) empty;
-      going = λ k m x apart there number old. more m old;
-      opened = λ k m x apart there keeps number old. more m old;
-      names = λ k m x d apart there frees number named. named_back m d named;
-      own_going = λ m x there number. absurd (true≢false (ap is_recorded (sym now ∙ there)));
-      own_opened = λ m x there keeps ok number.
+    record {
+      needed = λ m x. needs_by s z i m others (λ d named home. by_home m d (named_back m d named) home)
+          (λ y there number. absurd (true≢false (ap is_recorded (sym now ∙ there)))) (own_opened m)
+          (λ still. more m (h.needed m still)) x;
+      apart = apart_by D s z i doors others h (λ k m y d apart there frees number named. named_back m d named)
+          (λ m y d there frees number named.
           let mine : record job { outcome = Some g }
-          ≡ x = same_Some (record job { outcome = Some g }) x (ap job_out (sym now ∙ there)) in
-          let here : n ≡ m = same_Some n m (sym own ∙ ap (λ (j : Job). object_in j.plan) mine ∙ number) in
-          let some : is_some opened ≡ true = opens (ap (λ (j : Job). keeps_table j.call) mine ∙ keeps)
-          (ap (λ (j : Job). is_success (outcome_in j.outcome)) mine ∙ ok) in
-          subst (λ (q : ℕ). is_there later q ≡ true) here
-          (put_there D (put doors (door_of job) back) n opened
-          (subst (λ (q : ℕ). n < q) (sym (put_count D doors (door_of job) back ∙ size)) within) some);
-      own_apart = λ m x d there frees number named.
-          let mine : record job { outcome = Some g }
-          ≡ x = same_Some (record job { outcome = Some g }) x (sym (ap job_out now) ∙ there) in
+          ≡ y = same_Some (record job { outcome = Some g }) y (sym (ap job_out now) ∙ there) in
           let r = h.apart i m job d (ap job_out is) (ap (λ (j : Job). keeps_table j.call) mine ∙ frees) (ap door_of mine
           ∙ number) (named_back m d named) in
-          (r.0, ap comes_back (sym mine) ∙ r.1);
+          (r.0, ap comes_back (sym mine) ∙ r.1));
       single = subst (λ (x : World). HaveOne x.object) (sym same) h.single;
-    })
+    }
   where
     later : List (Option D)
     later = put (put doors (door_of job) back) (Some n) opened
 
-    is_recorded : lock.Phase → Bool
-    is_recorded (Recorded x) = true
-    is_recorded p = false
-
     o : OutAt s i job
     o = out w s i job laws at (ap job_out is)
-
-    within : n < limit.OBJECTS
-    within = let r = o in subst (λ (q : ℕ). q < limit.OBJECTS) (same_Some r.number n (sym r.object ∙ own)) r.within
 
     named_back : (m : ℕ) (d : Door) → Names z.world m d → Names s.world m d
     named_back m d named = subst (λ (x : World). Names x m d) same named
@@ -472,34 +410,35 @@ came_back D w s z i n job g doors back opened laws at others same is now size ow
     -- it is back if it was with this thread
     returned : (m : ℕ) (d : Door) → Names s.world m d → door_of job ≡ Some m → is_there later m ≡ true
     returned m d named number =
-        let r = o in
         let back_is : comes_back job ≡ true =
         by_bool (keeps_table job.call)
-        (λ keeps. accept_back job.found.object job.call job.carried r.request laws.kinds r.asked keeps
-        (taken_some number)) (λ frees. (h.apart i m job d (ap job_out is) frees number named).1) in
+        (λ keeps. (listener_at w s i m job laws at (ap job_out is) o keeps number).0)
+        (λ frees. (h.apart i m job d (ap job_out is) frees number named).1) in
         let l : m < length doors = subst (λ (q : ℕ). m < q) (sym size) (names_within s.world m d at.num named) in
         there_put D (put doors (door_of job) back) (Some n) opened m
         (ap (λ (x : Option ℕ). is_there (put doors x back) m) number ∙ put_there D doors m back l (comes back_is))
-      where
-        taken_some : door_of job ≡ Some m → is_some (door_taken job.found.object job.call job.carried) ≡ true
-        taken_some number = by_taken (door_taken job.found.object job.call job.carried) number
-          where
-            by_taken : (x : Option ℕ) → numbered job.found x ≡ Some m → is_some x ≡ true
-            by_taken (Some k) e = refl
-            by_taken None e = absurd (none-some m e)
 
-    by_old : (m : ℕ) (d : Door) → Names s.world m d → is_there later m ≡ false → IsOutWith z m
-    by_old m d named empty = by_bool (is_there doors m) (λ there. absurd (true≢false (sym (more m there) ∙ empty)))
-        (λ gone. by_thread (h.objects m d named gone))
-      where
-        by_thread : IsOutWith s m → IsOutWith z m
-        by_thread (k, x, (there, number)) = ⊎_elim
-            (λ (mine : i ≡ k).
-            let own_job : job
-            ≡ x = same_Some job x (ap job_out (sym is ∙ ap (λ (q : ℕ). (thread_of s q).phase) mine ∙ there))
-            in absurd (true≢false (sym (returned m d named (ap door_of own_job ∙ number)) ∙ empty)))
-            (λ (apart : i ≡ k → ⊥). (k, x, (back_phase s z i k (Outside x) others apart there, number)))
-            (cases_eq i k)
+    by_home : (m : ℕ) (d : Door) → Names s.world m d → IsHome z m → is_there later m ≡ true
+    by_home m d named home =
+        ⊎_elim (λ (mine : door_of job ≡ Some m). returned m d named mine)
+        (λ (apart : door_of job ≡ Some m → ⊥). more m (h.needed m (IsBorn d named (home_back s z i m others
+        (λ y there number. apart (ap door_of (same_Some job y (ap job_out (sym is ∙ there))) ∙ number)) home))))
+        (is_this (door_of job) m)
+
+    own_opened : (m : ℕ) (y : Job) → (thread_of z i).phase ≡ Recorded y → keeps_table y.call ≡ true
+        → is_success (outcome_in y.outcome) ≡ true → object_in y.plan ≡ Some m → is_there later m ≡ true
+    own_opened m y there keeps ok number =
+        let mine : record job { outcome = Some g }
+        ≡ y = same_Some (record job { outcome = Some g }) y (ap job_out (sym now ∙ there)) in
+        let here : n ≡ m = same_Some n m (sym own ∙ ap (λ (j : Job). object_in j.plan) mine ∙ number) in
+        let some : is_some opened ≡ true = opens (ap (λ (j : Job). keeps_table j.call) mine ∙ keeps)
+        (ap (λ (j : Job). is_success (outcome_in j.outcome)) mine ∙ ok) in
+        let r = o in
+        let within : n < limit.OBJECTS =
+        subst (λ (q : ℕ). q < limit.OBJECTS) (same_Some r.number n (sym r.object ∙ own)) r.within in
+        subst (λ (q : ℕ). is_there later q ≡ true) here
+        (put_there D (put doors (door_of job) back) n opened
+        (subst (λ (q : ℕ). n < q) (sym (put_count D doors (door_of job) back ∙ size)) within) some)
 
 -- ## The answer of a call that kept the table
 
@@ -530,12 +469,8 @@ concluded_doors D w s z i job x doors laws at others is none keeps came world h 
     after = let stepped : Stepped = step (settings_in w) s.world.object job.call (Some x.outcome) job.carried in
         stepped.after
 
-    is_recorded : lock.Phase → Bool
-    is_recorded (Recorded y) = true
-    is_recorded p = false
-
-    inside : (y : Job) → (thread_of s i).phase ≡ Outside y → ⊥
-    inside y there = true≢false (ap is_recorded (sym is ∙ there))
+    inside : (n : ℕ) → NotWith s i n
+    inside n y there at = true≢false (ap is_recorded (sym is ∙ there))
 
     o : OutAt s i job
     o = out w s i job laws at (ap job_out is)
@@ -553,32 +488,37 @@ concluded_doors D w s z i job x doors laws at others is none keeps came world h 
         (subst (λ (y : World). HaveOne y.object) (sym world)
         (subst HaveOne (sym (object_with s.world after)) (one_adds s.world.object after adds h.single))) none h
     by_opening (inr (ok, opens)) =
-        doors_by D s z i doors doors h (record {
-          others = others;
-          objects = λ n d named empty. ⊎_elim
-              (λ (old : Names s.world n d). still_out s z i n others inside (h.objects n d old empty))
-              (λ (new : n ≡ number_of s.world s.world.object.next_object).
-              absurd (true≢false (sym (h.opened i n job is keeps
-              (ap (λ (g : Option Given). is_success (outcome_in g)) came ∙ ok) (plan_is ∙ ap Some (sym new)))
-              ∙ empty)))
-              (names_opened s.world after n d at.num opens (subst (λ (y : World). Names y n d) world named));
-          going = λ k n y apart there number old. old;
-          opened = λ k n y apart there also number old. old;
-          names = λ k n y d apart there frees number named. ⊎_elim
+        record {
+          needed = λ n x. h.needed n (needs_by s z i n others
+              (λ d named home. by_name n d home (opened n d named))
+              (λ y there at. out_of_phase (thread_of z i).phase (ToOutside y) y none there refl)
+              (λ y there also went at. out_of_phase (thread_of z i).phase (Recorded y) y none there refl)
+              (λ still. still) x);
+          apart = apart_by D s z i doors others h
+              (λ k n y d apart there frees number named. ⊎_elim
               (λ (old : Names s.world n d). old)
               (λ (new : n ≡ number_of s.world s.world.object.next_object).
               let theirs = out w s k y laws at there in
               absurd (apart (one_object s i k n
               (holds_object s i n job at.held at.count o (plan_is ∙ ap Some (sym new)))
               (holds_object s k n y at.held at.count theirs (own_object s k n y theirs frees number)))))
-              (names_opened s.world after n d at.num opens (subst (λ (y : World). Names y n d) world named));
-          own_going = λ n y there number. out_of_phase (thread_of z i).phase (ToOutside y) y none there refl;
-          own_opened = λ n y there also ok number. out_of_phase (thread_of z i).phase (Recorded y) y none there refl;
-          own_apart = λ n y d there frees number named. out_of_phase (thread_of z i).phase (thread_of z i).phase y none
-              refl there;
+              (opened n d named))
+              (λ n y d there frees number named. out_of_phase (thread_of z i).phase (thread_of z i).phase y none refl
+              there);
           single = subst (λ (y : World). HaveOne y.object) (sym world)
               (subst HaveOne (sym (object_with s.world after)) (one_opens s.world after at.num opens h.single));
-        })
+        }
+      where
+        opened : (n : ℕ) (d : Door) → Names z.world n d → (Names s.world n d)
+            ⊎ (n ≡ number_of s.world s.world.object.next_object)
+        opened n d named =
+            names_opened s.world after n d at.num opens (subst (λ (y : World). Names y n d) world named)
+
+        by_name : (n : ℕ) (d : Door) → IsHome z n
+            → (Names s.world n d) ⊎ (n ≡ number_of s.world s.world.object.next_object) → Needs s n
+        by_name n d home (inl old) = IsBorn d old (home_back s z i n others (inside n) home)
+        by_name n d home (inr new) = WasOpened i job is keeps
+            (ap (λ (g : Option Given). is_success (outcome_in g)) came ∙ ok) (plan_is ∙ ap Some (sym new))
 
 -- ## Any event in which nothing comes
 
@@ -618,7 +558,7 @@ advanced_doors : (D : Type 0) (old : Whole) (c : Coming) (i : ℕ) (s : lock.Sta
     → ((job : Job) → (thread_of s i).phase ≡ Outside job → ⊥)
     → ((job : Job) → (thread_of s i).phase ≡ ToOutside job → ⊥)
     → DoorsThere D s doors → DoorsThere D (advance (setup_with old c s) i s) doors
-advanced_doors D old c i s doors laws at can inside not_going h = by_phase (thread_of s i).phase refl
+advanced_doors D old c i s doors laws at can outside not_going h = by_phase (thread_of s i).phase refl
   where
     setup : Setup
     setup = setup_with old c s
@@ -631,7 +571,10 @@ advanced_doors D old c i s doors laws at can inside not_going h = by_phase (thre
 
     none : job_out (thread_of z i).phase ≡ None
     none = let e = laws.events in moved_in setup i (thread_of s i) (thread_of z i) (e.moved setup s i can) not_going
-        inside
+        outside
+
+    inside : (n : ℕ) → NotWith s i n
+    inside n job is at = outside job is
 
     same_world : late_of setup (thread_of s i).phase ≡ None → DoorsThere D z doors
     same_world waits =
@@ -671,13 +614,7 @@ advanced_doors D old c i s doors laws at can inside not_going h = by_phase (thre
         by_bool (keeps_table job.call) (by_kept job is)
         (λ frees. same_world (ap (late_of setup) is
         ∙ late_none setup job job.outcome (plan_keeps job.plan) (o.keeps ∙ frees)))
-    by_phase Working is = same_world (ap (late_of setup) is)
-    by_phase (WantsTable call b) is = same_world (ap (late_of setup) is)
-    by_phase (WantsObject call b clock n way) is = same_world (ap (late_of setup) is)
-    by_phase (ToOutside job) is = same_world (ap (late_of setup) is)
-    by_phase (Outside job) is = same_world (ap (late_of setup) is)
-    by_phase (Blocked call b) is = same_world (ap (late_of setup) is)
-    by_phase Ended is = same_world (ap (late_of setup) is)
+    by_phase p is = same_world (ap (late_of setup) is)
 
 attempted_doors : (D : Type 0) (old new : Whole) (c : Coming) (i : ℕ) (s : lock.State) (doors : List (Option D))
     → DoorLaws → At old s → (let setup = setup_with old c s in At new (attempt setup i s))
@@ -700,8 +637,8 @@ attempted_doors D old new c i s doors laws at later can h = by_inside (cases_lt 
     others : Others s z i
     others = record { same = λ k apart. let e = laws.events in e.others setup s (Attempts i) k apart }
 
-    inside : (job : Job) → (thread_of s i).phase ≡ Outside job → ⊥
-    inside job is = false≢true (sym (ap wants is) ∙ wanting)
+    inside : (n : ℕ) → NotWith s i n
+    inside n job is at = false≢true (sym (ap wants is) ∙ wanting)
 
     holds : holds_table (thread_of s i).phase ≡ true → is_number s.table.holder i ≡ true
     holds holding = let held = at.held in held.table i ∙ holding
@@ -710,7 +647,7 @@ attempted_doors D old new c i s doors laws at later can h = by_inside (cases_lt 
     left x b = let stepped : Stepped = step settings s.world.object x None b in stepped.after
 
     adds : (x : Call) (b : Carried) → AddsNone s.world.object (left x b)
-    adds x b = let num = at.num in step_adds_none laws.so settings s.world.object x b num.plain
+    adds x b = step_adds_none settings s.world.object x b
 
     back : (x : Call) (b : Carried) → z.world ≡ left_by settings s.world x b → (n : ℕ) (d : Door) → Names z.world n d
         → Names s.world n d
@@ -731,9 +668,9 @@ attempted_doors D old new c i s doors laws at later can h = by_inside (cases_lt 
         subst (λ (x : World). asks x.object job.call job.carried ≡ Some mine.request) found mine.asked in
         let at_door : numbered s.world (door_taken s.world.object job.call job.carried) ≡ Some n =
         subst (λ (x : World). numbered x (door_taken x.object job.call job.carried) ≡ Some n) found number in
-        let f = frees_names s.world job.call job.carried mine.request n laws.so laws.takes at.num frees asked at_door in
-        let r = granted_apart settings s.world job.call job.carried mine.request n f.0 f.1 d laws.so laws.takes at.num
-        h.single asked f.2.0 f.2.1.0 frees f.2.1.1 (subst (λ (y : World). Names y n d) world named) in
+        let x = takes_door s.world job.call job.carried mine.request n laws.so laws.takes asked at_door in
+        let r = granted_apart settings s.world job.call job.carried mine.request n d laws.so laws.takes at.num
+        h.single asked frees x.0 (subst (λ (y : World). Names y n d) world named) in
         (r.0, ap comes_back_of mine.asked ∙ r.1)
 
     by_tried : IsTried settings s z i → DoorsThere D z doors
@@ -743,15 +680,15 @@ attempted_doors D old new c i s doors laws at later can h = by_inside (cases_lt 
     by_tried (Makes x b world none) = settled D s z i doors others inside (back x b world) (one x b world) none h
     by_tried (Frees job holding there found keeps world) =
         goes D s z i job doors others inside (back job.call job.carried world) (one job.call job.carried world) there
-        (λ n number. frees_there D old new s z i n job doors laws at later others inside (holds holding) there found h
-        number)
+        (λ n number. found_there D old new s z i n job doors laws at later others (inside n) (holds holding) there found
+        h number)
         (λ n d frees number named. own_apart job there found world n d frees number named) h
     by_tried (Keeps job holding there found keeps world) =
         let mine = out new z i job laws later (ap job_out there) in
         goes D s z i job doors others inside (λ n d named. subst (λ (x : World). Names x n d) world named)
         (subst (λ (x : World). HaveOne x.object) (sym world) h.single) there
-        (λ n number. frees_there D old new s z i n job doors laws at later others inside (holds holding) there found h
-        number)
+        (λ n number. found_there D old new s z i n job doors laws at later others (inside n) (holds holding) there found
+        h number)
         (λ n d frees number named. absurd (true≢false (sym keeps ∙ mine.keeps ∙ frees))) h
 
     by_inside : (i < length s.threads) ⊎ (length s.threads ≤ i) → DoorsThere D z doors
@@ -837,11 +774,9 @@ recorded_doors D old i n job g s doors back opened laws before can is size own c
 pub first_doors : (D : Type 0) (threads : ℕ) → DoorsThere D (real_start threads) (replicate limit.OBJECTS None)
 first_doors D threads =
     record {
-      objects = λ n d named empty. absurd (no_name n d named);
-      going = λ k n job is at. absurd (not_out k job (ap job_out is));
-      opened = λ k n job is keeps ok at. absurd (not_out k job (ap job_out is));
+      needed = λ n x. absurd (needs_none n x);
       apart = λ k n job d is frees at named. absurd (no_name n d named);
-      single = λ q r e f d at_q at_r same at. absurd (none-some e (sym (fin.get-empty nat_cmp q) ∙ at_q));
+      single = λ q r e f at_q at_r same out also. absurd (none-some e (sym (fin.get-empty nat_cmp q) ∙ at_q));
     }
   where
     none_at : (m n : ℕ) → get_or (replicate m (let o : Option ℕ = None in o)) n None ≡ None
@@ -863,3 +798,8 @@ first_doors D threads =
         inside zero k = refl
         inside (suc m) zero = refl
         inside (suc m) (suc k) = inside m k
+
+    needs_none : (n : ℕ) → Needs (real_start threads) n → ⊥
+    needs_none n (IsBorn d named home) = no_name n d named
+    needs_none n (GoesWith k job there at) = not_out k job (ap job_out there)
+    needs_none n (WasOpened k job there keeps ok at) = not_out k job (ap job_out there)

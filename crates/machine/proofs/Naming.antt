@@ -6,24 +6,23 @@ use Rattle.std.proofs.lemmas.Bool.{cases_eq, cases_lt, false≢true, true≢fals
 use Rattle.std.proofs.lemmas.Bool.Decides.{nat_tests}
 use Rattle.std.proofs.lemmas.List.{get_or-set_other, get_or-set_same, get_or_past, length-set}
 use Rattle.std.proofs.lemmas.Option.{none-some, same_Some}
-use Rattle.std.specs.Option.{option_map}
 use Rattle.std.specs.FinMap as fin
 use Rattle.std.specs.Prelude.{slice_index_or}
 use Rattle.file_descriptions.specs.declared.description.Description.{Description as Opened}
 use Rattle.descriptor_table.specs.Shows as shown
-use Rattle.descriptor_table.specs.Shows.{birth_at, is_of, shown_node}
+use Rattle.descriptor_table.specs.Shows.{birth_at}
 use Rattle.descriptor_table.specs.Table.{TableState}
 use Rattle.sequential_object.specs.Numbers.{first_free, if_there, number_in, number_of, with_births, world_with}
 use Rattle.sequential_object.specs.Worlds.{World}
 use Rattle.call_turns.specs.Store.{Stands, Stored}
 use Rattle.sequential_object.specs.Descriptors.{is_key}
-use Rattle.sequential_object.specs.Object.{Content, Description, Directory, DoorTo, FileNode, Node, State, content_of}
+use Rattle.sequential_object.specs.Deciding.{leads_outside}
+use Rattle.sequential_object.specs.Object.{Content, Description, DoorTo, State}
 use Rattle.posix_terms.specs.declared.limits.TheConstants.Limits as limit
 use Rattle.posix_terms.specs.declared.object.Door.{Door}
-use Rattle.posix_terms.specs.declared.object.End.TheVariants as part
-use Rattle.machine.specs.DoorsThere.{HaveOne, Names}
-use Rattle.machine.proofs.DoorCalls.{OpensNext, content_at}
-use Rattle.machine.proofs.NoNewDoors.{AddsNone, IsPlain, insert_other, insert_same}
+use Rattle.machine.specs.DoorsThere.{HaveOne, LeadsOut, Names}
+use Rattle.machine.proofs.DoorCalls.{OpensNext}
+use Rattle.machine.proofs.NoNewDoors.{AddsNone, insert_other, inserted}
 
 -- ## Numbers
 
@@ -121,7 +120,6 @@ number_leads (x ∷ xs) n k h = by_test (is_key x k) refl (λ m at. number_leads
 
 -- a state with its numbers, as a table and its bodies stand for it
 pub record IsNumbered (w : World) : Type 0 where
-  pub plain : IsPlain w.object
   pub present : (n k : ℕ) → slice_index_or w.numbers n None ≡ Some k → is_some (fin.get w.object.objects k) ≡ true
   pub numbered : (k : ℕ) → is_some (fin.get w.object.objects k) ≡ true → (n : ℕ)
       × (slice_index_or w.numbers n None ≡ Some k)
@@ -129,13 +127,11 @@ pub record IsNumbered (w : World) : Type 0 where
   pub next : fin.get w.object.objects w.object.next_object ≡ None
   pub described : (q : ℕ) (e : Description) → fin.get w.object.descriptions q ≡ Some e
       → is_some (fin.get w.object.objects e.object) ≡ true
-  pub ends : (q : ℕ) (e : Description) → fin.get w.object.descriptions q ≡ Some e
-      → is_of e.«end» (content_of w.object e.object) ≡ true
+  pub born : (k : ℕ) → is_some (fin.get w.object.objects k) ≡ true → k < w.object.next_object
 
 pub numbered_by : (h : Stored) (w : World) → Stands h w → IsNumbered w
 numbered_by h w st =
     record {
-      plain = record { born = born; named = named };
       present = λ n k at. st.shows.objects n k (ap (λ (xs : List (Option ℕ)). slice_index_or xs n None) (sym st.numbers)
           ∙ at);
       numbered = λ k at. let z = st.shows.numbered k at in
@@ -143,7 +139,7 @@ numbered_by h w st =
       count = ap length st.numbers ∙ st.sound.object_numbers;
       next = free (fin.get w.object.objects w.object.next_object) refl;
       described = described;
-      ends = ends;
+      born = born;
     }
   where
     t : TableState
@@ -153,89 +149,46 @@ numbered_by h w st =
     used_at (Some b) h = (b, refl)
     used_at None h = absurd (false≢true h)
 
-    -- the description in the table that a description is shown by
-    own_in : (q : ℕ) (e : Description) → fin.get w.object.descriptions q ≡ Some e → (key : ℕ) × (d : Opened)
-        × (fin.get t.descriptions.by_key key ≡ Some d) × (shown.shown t d ≡ e)
-    own_in q e at =
-        let z = st.shows.described q (ap is_some at) in
-        let shows = st.shows.descriptions z.0 z.1 z.2 in
-        (z.0, z.1, z.2, same_Some (shown.shown t z.1) e (sym shows ∙ ap (fin.get w.object.descriptions) z.3 ∙ at))
-
-    ends : (q : ℕ) (e : Description) → fin.get w.object.descriptions q ≡ Some e
-        → is_of e.«end» (content_of w.object e.object) ≡ true
-    ends q e at =
-        let z = own_in q e at in
-        ap (λ (x : Description). is_of x.«end» (content_of w.object x.object)) (sym z.3) ∙ st.shows.ends z.0 z.1 z.2
-
     described : (q : ℕ) (e : Description) → fin.get w.object.descriptions q ≡ Some e
         → is_some (fin.get w.object.objects e.object) ≡ true
     described q e at =
-        let z = own_in q e at in
-        let key = z.0 in
-        let d = z.1 in
-        let own = z.3 in
-        let used = used_at (slice_index_or t.objects d.node None) (st.sound.described_objects key d z.2) in
+        let z = st.shows.described q (ap is_some at) in
+        let d : Opened = z.1 in
+        let own : shown.shown t d ≡ e = same_Some (shown.shown t d) e
+        (sym (st.shows.descriptions z.0 d z.2) ∙ ap (fin.get w.object.descriptions) z.3 ∙ at) in
+        let used = used_at (slice_index_or t.objects d.node None) (st.sound.described_objects z.0 d z.2) in
         let birth : birth_at t d.node ≡ used.0 = ap (λ (o : Option ℕ). unwrap_or o t.made_objects) used.1 in
         ap (λ (x : Description). is_some (fin.get w.object.objects x.object)) (sym own)
         ∙ ap (λ (k : ℕ). is_some (fin.get w.object.objects k)) birth ∙ st.shows.objects d.node used.0 used.1
 
-    before : (k : ℕ) → is_some (fin.get w.object.objects k) ≡ true → k < w.object.next_object
-    before k at = let z = st.shows.numbered k at in
+    born : (k : ℕ) → is_some (fin.get w.object.objects k) ≡ true → k < w.object.next_object
+    born k at = let z = st.shows.numbered k at in
         subst (λ (n : ℕ). k < n) (sym st.shows.next_object) (st.sound.born z.0 k z.1)
-
-    born : (k : ℕ) (d : Door) → fin.get w.object.objects k ≡ Some (DoorTo d) → k < w.object.next_object
-    born k d at = before k (ap is_some at)
 
     free : (o : Option Content) → fin.get w.object.objects w.object.next_object ≡ o
         → fin.get w.object.objects w.object.next_object ≡ None
     free None is = is
-    free (Some c) is = let early = before w.object.next_object (ap is_some is) in absurd (omega arith)
-
-    plain_content : (s : State) (object : ℕ) (d : Door) → fin.get s.objects object ≡ Some (DoorTo d)
-        → is_of part.Only (content_of s object) ≡ false
-    plain_content s object d at = ap (is_of part.Only) (content_at s object (DoorTo d) at)
-
-    by_node : (path : List (List ℕ)) (object : ℕ) (d : Door) (o : Option Node) → fin.get t.paths path ≡ o
-        → option_map (shown_node t) o ≡ Some (FileNode object) → fin.get w.object.objects object ≡ Some (DoorTo d) → ⊥
-    by_node path object d (Some (FileNode node)) is e at =
-        let same : birth_at t node ≡ object = ap (object_in object) e in
-        let file : is_of part.Only (content_of w.object (birth_at t node)) ≡ true = st.shows.files path node is in
-        true≢false (sym file ∙ ap (λ (n : ℕ). is_of part.Only (content_of w.object n)) same
-        ∙ plain_content w.object object d at)
-      where
-        object_in : ℕ → Option Node → ℕ
-        object_in other (Some (FileNode n)) = n
-        object_in other o = other
-    by_node path object d (Some Directory) is e at = false≢true (ap is_file e)
-      where
-        is_file : Option Node → Bool
-        is_file (Some (FileNode n)) = true
-        is_file o = false
-    by_node path object d None is e at = none-some (FileNode object) e
-
-    named : (path : List (List ℕ)) (object : ℕ) (d : Door) → fin.get w.object.paths path ≡ Some (FileNode object)
-        → fin.get w.object.objects object ≡ Some (DoorTo d) → ⊥
-    named path object d is at = by_node path object d (fin.get t.paths path) refl (sym (st.shows.paths path) ∙ is) at
+    free (Some c) is = let early = born w.object.next_object (ap is_some is) in absurd (omega arith)
 
 -- ## Names
 
--- the number of a door is its own
-pub names_own : (w : World) (k : ℕ) (d : Door) → IsNumbered w → fin.get w.object.objects k ≡ Some (DoorTo d)
-    → Names w (number_of w k) d
-names_own w k d h at =
-    let there : is_some (fin.get w.object.objects k) ≡ true = ap is_some at in
-    let z = h.numbered k there in
-    let number : number_of w k ≡ number_in w.numbers k =
-    ap (λ (b : Bool). if b then number_in w.numbers k else first_free w.numbers) there in
-    (k, (ap (λ (n : ℕ). slice_index_or w.numbers n None) number ∙ number_leads w.numbers z.0 k z.1, at))
+-- an object that leads outside is there
+led : (w : World) (k : ℕ) (d : Door) → IsNumbered w → LeadsOut w.object k d
+    → is_some (fin.get w.object.objects k) ≡ true
+led w k d h leads = ap (λ (o : ℕ). is_some (fin.get w.object.objects o)) (sym leads.own)
+    ∙ h.described leads.key leads.description leads.there
 
-pub number_slot : (w : World) (k : ℕ) (d : Door) → IsNumbered w → fin.get w.object.objects k ≡ Some (DoorTo d)
+-- its number leads to it
+pub number_slot : (w : World) (k : ℕ) (d : Door) → IsNumbered w → LeadsOut w.object k d
     → slice_index_or w.numbers (number_of w k) None ≡ Some k
-number_slot w k d h at =
-    let there : is_some (fin.get w.object.objects k) ≡ true = ap is_some at in
+number_slot w k d h leads =
+    let there = led w k d h leads in
     let z = h.numbered k there in
     ap (λ (b : Bool). slice_index_or w.numbers (if b then number_in w.numbers k else first_free w.numbers) None) there
     ∙ number_leads w.numbers z.0 k z.1
+
+pub names_own : (w : World) (k : ℕ) (d : Door) → IsNumbered w → LeadsOut w.object k d → Names w (number_of w k) d
+names_own w k d h leads = (k, (number_slot w k d h leads, leads))
 
 -- it is below the most
 pub names_within : (w : World) (n : ℕ) (d : Door) → IsNumbered w → Names w n d → n < limit.OBJECTS
@@ -243,27 +196,57 @@ names_within w n d h named = ⊎_elim (λ (l : n < length w.numbers). subst (λ 
     (λ (l : length w.numbers ≤ n). absurd (none-some named.0 (sym (get_or_past w.numbers n None l) ∙ named.1.0)))
     (cases_lt n (length w.numbers))
 
--- a call that makes no door names none that was not named
+-- where no door is made, a number of a door was that of this object, which led outside before
+pub record IsStill (w : World) (after : State) (n : ℕ) (d : Door) : Type 0 where
+  pub object : ℕ
+  pub slot : slice_index_or w.numbers n None ≡ Some object
+  pub leads : LeadsOut w.object object d
+  pub later : LeadsOut after object d
+
+pub names_still : (w : World) (after : State) (n : ℕ) (d : Door) → IsNumbered w → AddsNone w.object after
+    → Names (world_with w after) n d → IsStill w after n d
+unfolding world_with
+names_still w after n d h adds named =
+    let k = named.0 in
+    let x : LeadsOut after k d = named.1.1 in
+    let was = adds x.key x.description x.there (ap leads_outside x.which) in
+    let leads : LeadsOut w.object k d =
+    record {
+      key = x.key;
+      description = was.before;
+      there = was.there;
+      own = was.object ∙ x.own;
+      which = was.«end» ∙ x.which;
+    } in
+    let early = h.born k (led w k d h leads) in
+    record {
+      object = k;
+      slot = ⊎_elim
+          (λ (old : get_or (map (if_there after) w.numbers) n None ≡ Some k). (there_back after w.numbers n k old).0)
+          (λ (new : w.object.next_object ≤ k). absurd (omega arith))
+          (born_back (after.next_object - w.object.next_object) w.object.next_object (map (if_there after) w.numbers) n
+          k named.1.0);
+      leads = leads;
+      later = x;
+    }
+
 pub names_back : (w : World) (after : State) (n : ℕ) (d : Door) → IsNumbered w → AddsNone w.object after
     → Names (world_with w after) n d → Names w n d
-unfolding world_with
-names_back w after n d h adds named =
-    let k = named.0 in
-    let was : fin.get w.object.objects k ≡ Some (DoorTo d) = adds.objects k d named.1.1 in
-    let early = h.plain.born k d was in
-    ⊎_elim
-    (λ (old : get_or (map (if_there after) w.numbers) n None ≡ Some k).
-    (k, ((there_back after w.numbers n k old).0, was)))
-    (λ (new : w.object.next_object ≤ k). absurd (omega arith))
-    (born_back (after.next_object - w.object.next_object) w.object.next_object (map (if_there after) w.numbers) n k
-    named.1.0)
+names_back w after n d h adds named = let z = names_still w after n d h adds named in (z.object, (z.slot, z.leads))
 
--- of one that opens a door, none but that of the door
+-- a door that is gone has no number
+pub names_gone : (w : World) (after : State) (n k : ℕ) (d : Door) → IsNumbered w → AddsNone w.object after
+    → slice_index_or w.numbers n None ≡ Some k → (LeadsOut after k d → ⊥) → Names (world_with w after) n d → ⊥
+names_gone w after n k d h adds at gone named =
+    let z = names_still w after n d h adds named in
+    gone (subst (λ (o : ℕ). LeadsOut after o d) (same_Some z.object k (sym z.slot ∙ at)) z.later)
+
+-- of a call that opens a door, none but that of the door
 pub names_opened : (w : World) (after : State) (n : ℕ) (d : Door) → IsNumbered w → OpensNext w.object after
     → Names (world_with w after) n d → (Names w n d) ⊎ (n ≡ number_of w w.object.next_object)
 unfolding world_with
 names_opened w after n d h opens named =
-    ⊎_elim old new (set_back w.numbers (first_free w.numbers) n k w.object.next_object
+    ⊎_elim old new (set_back w.numbers (first_free w.numbers) n k s.next_object
     (subst (λ (xs : List (Option ℕ)). get_or xs n None ≡ Some k) births named.1.0))
   where
     s : State
@@ -275,14 +258,13 @@ names_opened w after n d h opens named =
     one_more : (a b : ℕ) → b ≡ a + 1 → b - a ≡ 1
     one_more a b e = omega arith
 
+    -- the next object is not there yet
+    unborn : (q : ℕ) → is_some (fin.get s.objects q) ≡ true → q ≡ s.next_object → ⊥
+    unborn q at is = false≢true (sym (ap (λ (o : ℕ). is_some (fin.get s.objects o)) is ∙ ap is_some h.next) ∙ at)
+
     still : (q : ℕ) → is_some (fin.get s.objects q) ≡ true → is_some (fin.get after.objects q) ≡ true
-    still q at =
-        ⊎_elim
-        (λ (is : q ≡ s.next_object). absurd
-        (false≢true (sym (ap (λ (o : ℕ). is_some (fin.get s.objects o)) is ∙ ap is_some h.next) ∙ at)))
-        (λ (apart : q ≡ s.next_object → ⊥). ap (λ (m : fin.FinMap _ Content). is_some (fin.get m q)) opens.objects
-        ∙ ap is_some (insert_other s.objects s.next_object (DoorTo opens.door) q apart) ∙ at)
-        (cases_eq q s.next_object)
+    still q at = ap (λ (m : fin.FinMap _ Content). is_some (fin.get m q)) opens.objects
+        ∙ ap is_some (insert_other s.objects s.next_object (DoorTo opens.door) q (unborn q at)) ∙ at
 
     births : with_births (after.next_object - s.next_object) s.next_object (map (if_there after) w.numbers)
         ≡ set w.numbers (first_free w.numbers) (Some s.next_object)
@@ -298,96 +280,60 @@ names_opened w after n d h opens named =
 
     old : get_or w.numbers n None ≡ Some k → (Names w n d) ⊎ (n ≡ number_of w s.next_object)
     old is =
-        ⊎_elim
-        (λ (same : k ≡ s.next_object).
-        absurd (false≢true (sym (ap (λ (o : ℕ). is_some (fin.get s.objects o)) same ∙ ap is_some h.next)
-        ∙ h.present n k is)))
-        (λ (apart : k ≡ s.next_object → ⊥).
-        inl (
+        let x : LeadsOut after k d = named.1.1 in
+        inserted s.descriptions s.next_description opens.description x.key x.description
+        (sym (ap (λ (m : fin.FinMap _ Description). fin.get m x.key) opens.descriptions) ∙ x.there)
+        (λ key same. absurd (unborn k (h.present n k is)
+        (sym x.own ∙ ap (λ (z : Description). z.object) (sym same) ∙ opens.object)))
+        (λ there. inl (
           k,
           (
             is,
-            sym (ap (λ (m : fin.FinMap _ Content). fin.get m k) opens.objects
-                ∙ insert_other s.objects s.next_object (DoorTo opens.door) k apart) ∙ named.1.1,
+            record {
+              key = x.key;
+              description = x.description;
+              there = there;
+              own = x.own;
+              which = x.which;
+            },
           ),
         ))
-        (cases_eq k s.next_object)
 
     new : (n ≡ first_free w.numbers) × (k ≡ s.next_object) → (Names w n d) ⊎ (n ≡ number_of w s.next_object)
     new is = inr (is.0 ∙ sym free)
 
-after_of : (w : World) (after : State) (n : ℕ) (d : Door) → (x : Names (world_with w after) n d)
-    → fin.get after.objects x.0 ≡ Some (DoorTo d)
-unfolding world_with
-after_of w after n d x = x.1.1
-
-names_as : (w : World) (after : State) (n : ℕ) (d : Door) → IsNumbered w → AddsNone w.object after
-    → (x : Names (world_with w after) n d) → slice_index_or w.numbers n None ≡ Some x.0
-unfolding world_with
-names_as w after n d h adds x =
-    let early = h.plain.born x.0 d (adds.objects x.0 d x.1.1) in
-    ⊎_elim
-    (λ (old : get_or (map (if_there after) w.numbers) n None ≡ Some x.0). (there_back after w.numbers n x.0 old).0)
-    (λ (new : w.object.next_object ≤ x.0). absurd (omega arith))
-    (born_back (after.next_object - w.object.next_object) w.object.next_object (map (if_there after) w.numbers) n x.0
-    x.1.0)
-
--- a door that is gone has no number
-pub names_gone : (w : World) (after : State) (n k : ℕ) (d : Door) → IsNumbered w → AddsNone w.object after
-    → slice_index_or w.numbers n None ≡ Some k → fin.get after.objects k ≡ None → Names (world_with w after) n d → ⊥
-names_gone w after n k d h adds at gone named =
-    gone_of named (same_Some _ k (sym (names_as w after n d h adds named) ∙ at))
-  where
-    gone_of : (x : Names (world_with w after) n d) → x.0 ≡ k → ⊥
-    gone_of x same = none-some (DoorTo d) (sym gone ∙ ap (fin.get after.objects) (sym same) ∙ after_of w after n d x)
-
 -- ## Descriptions
 
 pub one_adds : (s after : State) → AddsNone s after → HaveOne s → HaveOne after
-one_adds s after adds one q r e f d at_q at_r same door =
-    let was = adds.objects e.object d door in
-    let left = adds.descriptions q e d at_q was in
-    let right = adds.descriptions r f d at_r (ap (fin.get s.objects) (sym same) ∙ was) in
-    one q r left.0 right.0 d left.1.0 right.1.0 (left.1.1 ∙ same ∙ sym right.1.1) (ap (fin.get s.objects) left.1.1
-    ∙ was)
+one_adds s after adds one q r e f at_q at_r same out also =
+    let left = adds q e at_q out in
+    let right = adds r f at_r also in
+    one q r left.before right.before left.there right.there (left.object ∙ same ∙ sym right.object)
+    (ap leads_outside left.«end» ∙ out) (ap leads_outside right.«end» ∙ also)
 
 -- with that of a door that was opened
 pub one_opens : (w : World) (after : State) → IsNumbered w → OpensNext w.object after → HaveOne w.object → HaveOne after
-one_opens w after h opens one q r e f d at_q at_r same door =
-    ⊎_elim (λ (is : q ≡ nd). ⊎_elim (λ (it : r ≡ nd). is ∙ sym it)
-    (λ (apart : r ≡ nd → ⊥). absurd (mixed r f (old r f apart at_r) (sym same ∙ new q e is at_q))) (cases_eq r nd))
-    (λ (apart : q ≡ nd → ⊥). ⊎_elim (λ (it : r ≡ nd). absurd (mixed q e (old q e apart at_q) (same ∙ new r f it at_r)))
-    (λ (other : r ≡ nd → ⊥). one q r e f d (old q e apart at_q) (old r f other at_r) same
-    (own_door (old q e apart at_q))) (cases_eq r nd)) (cases_eq q nd)
+one_opens w after h opens one q r e f at_q at_r same out also =
+    by_key q e at_q
+    (λ is own. by_key r f at_r (λ it other. is ∙ sym it)
+    (λ there. absurd (mixed r f there (sym same ∙ own))))
+    (λ old. by_key r f at_r (λ it other. absurd (mixed q e old (same ∙ other)))
+    (λ there. one q r e f old there same out also))
   where
     s : State
     s = w.object
 
-    nd : ℕ
-    nd = s.next_description
-
-    old : (x : ℕ) (y : Description) → (x ≡ nd → ⊥) → fin.get after.descriptions x ≡ Some y
-        → fin.get s.descriptions x ≡ Some y
-    old x y apart at = sym (ap (λ (m : fin.FinMap _ Description). fin.get m x) opens.descriptions
-        ∙ insert_other s.descriptions nd opens.description x apart) ∙ at
-
-    new : (x : ℕ) (y : Description) → x ≡ nd → fin.get after.descriptions x ≡ Some y → y.object ≡ s.next_object
-    new x y is at =
-        let own : opens.description ≡ y =
-        same_Some opens.description y (sym
-        (ap (λ (m : fin.FinMap _ Description). fin.get m x) opens.descriptions
-        ∙ ap (fin.get (fin.insert s.descriptions nd opens.description)) is
-        ∙ insert_same s.descriptions nd opens.description) ∙ at) in
-        ap (λ (z : Description). z.object) (sym own) ∙ opens.object
+    by_key : {A : Type 0} (x : ℕ) (y : Description) → fin.get after.descriptions x ≡ Some y
+        → (x ≡ s.next_description → y.object ≡ s.next_object → A) → (fin.get s.descriptions x ≡ Some y → A) → A
+    by_key x y at new old =
+        inserted s.descriptions s.next_description opens.description x y
+        (sym (ap (λ (m : fin.FinMap _ Description). fin.get m x) opens.descriptions) ∙ at)
+        (λ is own. new is (ap (λ (z : Description). z.object) (sym own) ∙ opens.object)) old
 
     -- no description is of an object that is not yet born
     mixed : (x : ℕ) (y : Description) → fin.get s.descriptions x ≡ Some y → y.object ≡ s.next_object → ⊥
     mixed x y at is = false≢true (sym (ap (λ (k : ℕ). is_some (fin.get s.objects k)) is ∙ ap is_some h.next)
         ∙ h.described x y at)
-
-    own_door : fin.get s.descriptions q ≡ Some e → fin.get s.objects e.object ≡ Some (DoorTo d)
-    own_door at = sym (ap (λ (m : fin.FinMap _ Content). fin.get m e.object) opens.objects
-        ∙ insert_other s.objects s.next_object (DoorTo opens.door) e.object (mixed q e at)) ∙ door
 
 pub object_with : (w : World) (after : State) → (let x : World = world_with w after in x.object) ≡ after
 unfolding world_with
