@@ -239,7 +239,7 @@ uint32_t detio_record(detio *, size_t thread, const detio_outcome *, const uint8
 uint32_t detio_next(detio *, size_t thread, detio_outcome *, uint8_t *data, size_t room);
 uint32_t detio_unused(detio *, size_t thread, uint64_t *count);
 
-/* The end of a run. */
+/* The end of a run. Where detio_finish is refused for memory, it may be called again. */
 uint32_t detio_stop(detio *, uint32_t cause, size_t thread);
 uint32_t detio_finish(detio *, detio_run_end *);
 

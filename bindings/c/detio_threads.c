@@ -206,42 +206,45 @@ static uint32_t goes_on(detio_run *run, size_t thread, detio_reply *reply, void 
   return go_on(run, thread, reply, data ? data : none, data ? room : 0, waits);
 }
 
-uint32_t detio_thread_call(detio_run *run, size_t thread, const detio_call *call, const void *text,
-                           size_t text_length, const void *second, size_t second_length, detio_reply *reply,
-                           void *data, size_t room) {
+/* Makes the call of a thread and, where it waits, waits for the reply. */
+static uint32_t calls(detio_run *run, size_t thread, const detio_call *call, const void *text, size_t text_length,
+                      const void *second, size_t second_length, detio_reply *reply, void *data, size_t room,
+                      bool waits) {
   if (thread >= run->threads) return DETIO_NO_THREAD;
   pthread_mutex_lock(&run->lock);
   uint32_t code = asks(run, thread, call, text, text_length, second, second_length);
-  if (code == DETIO_DONE) code = goes_on(run, thread, reply, data, room, true);
+  if (code == DETIO_DONE) code = goes_on(run, thread, reply, data, room, waits);
   pthread_mutex_unlock(&run->lock);
   return code;
 }
 
-uint32_t detio_thread_resume(detio_run *run, size_t thread, detio_reply *reply, void *data, size_t room) {
+/* Goes on with the call that a thread made before. */
+static uint32_t resumes(detio_run *run, size_t thread, detio_reply *reply, void *data, size_t room, bool waits) {
   if (thread >= run->threads) return DETIO_NO_THREAD;
   pthread_mutex_lock(&run->lock);
-  uint32_t code = goes_on(run, thread, reply, data, room, true);
+  uint32_t code = goes_on(run, thread, reply, data, room, waits);
   pthread_mutex_unlock(&run->lock);
   return code;
+}
+
+uint32_t detio_thread_call(detio_run *run, size_t thread, const detio_call *call, const void *text,
+                           size_t text_length, const void *second, size_t second_length, detio_reply *reply,
+                           void *data, size_t room) {
+  return calls(run, thread, call, text, text_length, second, second_length, reply, data, room, true);
+}
+
+uint32_t detio_thread_resume(detio_run *run, size_t thread, detio_reply *reply, void *data, size_t room) {
+  return resumes(run, thread, reply, data, room, true);
 }
 
 uint32_t detio_thread_start(detio_run *run, size_t thread, const detio_call *call, const void *text,
                             size_t text_length, const void *second, size_t second_length, detio_reply *reply,
                             void *data, size_t room) {
-  if (thread >= run->threads) return DETIO_NO_THREAD;
-  pthread_mutex_lock(&run->lock);
-  uint32_t code = asks(run, thread, call, text, text_length, second, second_length);
-  if (code == DETIO_DONE) code = goes_on(run, thread, reply, data, room, false);
-  pthread_mutex_unlock(&run->lock);
-  return code;
+  return calls(run, thread, call, text, text_length, second, second_length, reply, data, room, false);
 }
 
 uint32_t detio_thread_try(detio_run *run, size_t thread, detio_reply *reply, void *data, size_t room) {
-  if (thread >= run->threads) return DETIO_NO_THREAD;
-  pthread_mutex_lock(&run->lock);
-  uint32_t code = goes_on(run, thread, reply, data, room, false);
-  pthread_mutex_unlock(&run->lock);
-  return code;
+  return resumes(run, thread, reply, data, room, false);
 }
 
 uint32_t detio_thread_work(detio_run *run, size_t thread, uint64_t units) {

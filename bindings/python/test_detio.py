@@ -60,6 +60,16 @@ class Calls(unittest.TestCase):
         self.assertEqual(result.values[1], b'x')
 
 
+def writes_host(io, path):
+    """Writes a host file and reads it again."""
+    file = io.host_open(path, 'r+', create=True)
+    io.write(file, b'host')
+    io.lseek(file, 0)
+    text = io.read(file, 10)
+    io.close(file)
+    return text
+
+
 class Runs(unittest.TestCase):
     def setUp(self):
         self.folder = tempfile.TemporaryDirectory()
@@ -72,12 +82,7 @@ class Runs(unittest.TestCase):
         path = os.path.join(self.folder.name, 'host.txt')
 
         def writes(io):
-            file = io.host_open(path, 'r+', create=True)
-            io.write(file, b'host')
-            io.lseek(file, 0)
-            text = io.read(file, 10)
-            io.close(file)
-            return text
+            return writes_host(io, path)
 
         run = detio.Run(writes, writes)
         recorded = run.record(self.log).check()
@@ -292,12 +297,7 @@ class Steps(unittest.TestCase):
                 return text
 
             def calls(io):
-                file = io.host_open(path, 'r+', create=True)
-                io.write(file, b'host')
-                io.lseek(file, 0)
-                text = io.read(file, 10)
-                io.close(file)
-                return text
+                return writes_host(io, path)
 
             recorded = detio.Run(steps, steps).record(log, seed=3).check()
             os.remove(path)

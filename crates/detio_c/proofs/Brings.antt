@@ -12,4 +12,4 @@ pub brings : {said : Option Outcome} {o : Outcome} {i : ℕ} {back opened : Opti
     → BringsOutcome said i before (Some new)
 brings {said} {o} {i} {back} {opened} {before} {old} {new} {outing} is_said is_there r =
     subst (λ x. BringsOutcome x i before (Some new)) (sym is_said)
-    (subst (λ y. BringsOutcome (Some o) i y (Some new)) (sym is_there) (given_for outing o, refl, r.grows))
+    (subst (λ y. BringsOutcome (Some o) i y (Some new)) (sym is_there) (given_for outing o, refl, r.grows, r.counted))

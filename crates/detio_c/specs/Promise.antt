@@ -1,7 +1,8 @@
 -- What each export promises of the session in its handle.
-use Rattle.std.specs.Prelude.{◌≡◌, ℕ, List, Option, Some, None, IfSome}
+use Rattle.std.specs.Prelude.{◌≡◌, ℕ, ◌+◌, List, Option, Some, None, IfSome}
 use Rattle.lock_model.specs.Machine.{Event}
 use Rattle.lock_model.specs.Machine.Event.{Advances}
+use Rattle.lock_machine.specs.Whole.{thread_at}
 use Rattle.machine.specs.Faithful.{IsFaithful}
 use Rattle.machine.specs.Runs.{Coming, Grows}
 use Rattle.machine.specs.Runs.Coming.{Asks, Brings}
@@ -46,10 +47,17 @@ HasAsked words text second i (Some old) (Some new) =
     AsksCall (call_of words text second) i old.machine new.machine
 HasAsked words text second i old new = ⊥
 
--- the run has grown by this outcome, if there is one
+-- one outcome more came for thread i
+abbrev pub CountsOne : ℕ → Option (Shown ℕ) → Option (Shown ℕ) → Type 0
+CountsOne i (Some old) (Some new) =
+    (thread_at new.whole i).came ≡ (thread_at old.whole i).came + 1
+CountsOne i old new = ⊥
+
+-- the run has grown by this outcome of thread i, if there is one, which was counted
 abbrev pub BringsOutcome : Option Outcome → ℕ → Option (Shown ℕ) → Option (Shown ℕ) → Type 0
 BringsOutcome (Some o) i old new =
     (given : Given) × (given.outcome ≡ o) × GrowsBy (Brings given) (Advances i) old new
+    × CountsOne i old new
 BringsOutcome None i old new = ⊥
 
 -- the run of the session has grown by the outcome that C says

@@ -1,5 +1,6 @@
 -- What C reads of the session in its handle, where a call of the library was done.
-use Rattle.std.specs.Prelude.{◌≡◌, ℕ, ◌≤◌, ◌-◌, Bool, true, false, List, length, take, drop, min}
+use Rattle.std.specs.Prelude.{◌≡◌, ℕ, ◌≤◌, ◌-◌, Bool, true, false, List, length, map, take, drop}
+use Rattle.std.specs.Prelude.{min}
 use Rattle.std.specs.Prelude.{get_or, slice_get, Option, Some, None, IfSome, IsSomeAnd, MatchOption}
 use Rattle.c_words.specs.Requests.{outside_words, text_of}
 use Rattle.c_words.specs.Words.{bytes_in, bytes_that_came, outcome_words, reply_words}
@@ -8,7 +9,9 @@ use Rattle.c_words.specs.declared.words.OutsideWords.{OutsideWords}
 use Rattle.c_words.specs.declared.words.ReplyWords.{ReplyWords}
 use Rattle.c_words.specs.declared.words.RunEnd.{RunEnd}
 use Rattle.lock_machine.specs.Refusals.{phase_at, wants_lock}
+use Rattle.lock_machine.specs.Threads.{Thread}
 use Rattle.lock_machine.specs.Views.{clocks_of}
+use Rattle.lock_machine.specs.Whole.{Whole}
 use Rattle.lock_machine.specs.declared.thread.Outing.{Outing}
 use Rattle.lock_machine.specs.declared.thread.Phase.{Phase}
 use Rattle.lock_machine.specs.declared.thread.Phase.TheVariants as phase
@@ -105,9 +108,22 @@ abbrev pub next_of : Option (List Given) → ℕ → Option Given
 next_of (Some outcomes) count = slice_get outcomes count
 next_of None count = None
 
--- how many outcomes came for thread i
+-- by thread of a machine how many outcomes came
+abbrev pub counts_in : Whole → List ℕ
+counts_in w = map (λ (t : Thread). t.came) w.threads
+
+-- the same of a run, whose machine has it while the run goes on
+abbrev pub counts_by : Option (Shown ℕ) → List ℕ → List ℕ
+counts_by (Some m) left = counts_in m.whole
+counts_by None left = left
+
+-- by thread of a session how many outcomes came
+abbrev pub counts_of : Session → List ℕ
+counts_of s = counts_by s.machine s.came.items
+
+-- how many outcomes came for thread i, and none where there is no such thread
 abbrev pub came_for : Session → ℕ → ℕ
-came_for s i = get_or s.came.items i 0
+came_for s i = get_or (counts_of s) i 0
 
 -- the next outcome that the log of a replay has for thread i
 abbrev pub next_logged : Session → ℕ → Option Given
@@ -148,11 +164,12 @@ ReadsLogOf from n room buffer s =
     MatchOption s.machine (IsSomeAnd s.left (λ left. ReadsLog from n room buffer left.sink.bytes))
     (λ m. ReadsLog from n room buffer m.log.taken)
 
--- the machine is finished, and C reads how it ended
+-- the machine is finished, C reads how it ended, and how many outcomes came is kept
 abbrev pub HasFinished : RunEnd → Session → Session → Type 0
 HasFinished words old new = IsSomeAnd old.machine (λ m. IsSomeAnd new.left
     (λ left. Finishes m left.sink.bytes left.sink.failures left.stop
     × (words ≡ run_end left.stop (have_ended m.whole.threads) left.sink.bytes)))
+    × (counts_of new ≡ counts_of old)
 
 -- the machine is stopped for the cause with this number
 abbrev pub HasStopped : ℕ → ℕ → Session → Session → Type 0

@@ -141,7 +141,7 @@ pub extern "C" fn detio_finish(alloc: Global, h: &mut Handle, ended: &mut RunEnd
         return LibraryFault::NoSession.code();
     };
     let mut session = session;
-    let made = session.finish();
+    let made = session.finish(alloc);
     put(h, session);
     match made {
         Ok(words) => {

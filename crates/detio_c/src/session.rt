@@ -1,5 +1,5 @@
 ghost use Rattle.std.specs.Prelude.{◌≡◌, ◌<◌, ℕ, IfErr, IfOk, IfSome, IsSomeAnd, OnErr, OnOk};
-ghost use Rattle.std.specs.Prelude.{false, length, option_copied};
+ghost use Rattle.std.specs.Prelude.{false, get_or, length, option_copied};
 ghost use Rattle.c_words.specs.Words.{outcome_of};
 ghost use Rattle.c_words.specs.declared.fault.LibraryFault.TheVariants as fault;
 ghost use Rattle.lock_machine.specs.Refusals.{phase_at};
@@ -12,7 +12,8 @@ ghost use Rattle.detio_c.specs.Begun.{Begins, BeginsReplay, outcomes_by, setting
 ghost use Rattle.detio_c.specs.Promise.{BringsOutcome, GrowsBy};
 ghost use Rattle.detio_c.specs.Reads.{HasFinished, HasStopped, HasTurn, IsAtPhase, ReadsAnswer};
 ghost use Rattle.detio_c.specs.Reads.{ReadsLogOf, ReadsNext, ReadsRequest, Rests, came_for};
-ghost use Rattle.detio_c.specs.Reads.{door_along, next_logged, phase_code, unused_of, waits_in};
+ghost use Rattle.detio_c.specs.Reads.{counts_in, counts_of, door_along, next_logged, phase_code};
+ghost use Rattle.detio_c.specs.Reads.{unused_of, waits_in};
 
 use crate::ends::{doors_of, run_end};
 use crate::fault::fault_of;
@@ -36,7 +37,7 @@ pub struct Session {
     pub left: Option<Finished<MemorySink>>,
     // of a replay, by thread the outcomes that its log has
     logged: Vec<Outcomes>,
-    // by thread how many outcomes came
+    // of a run that is over, by thread how many outcomes came
     came: Vec<u32>,
 }
 
@@ -73,7 +74,6 @@ impl Session {
         if threads < 1 || threads > Limits::THREADS || !are_in_range(settings) {
             return Err(LibraryFault::BadSettings);
         }
-        let came = Vec::from_elem(alloc, 0, threads)?;
         let sink = MemorySink::new(alloc, room)?;
         let Ok(log) = LogWriter::begin(sink, Header::new(threads as u16, settings)) else {
             return Err(LibraryFault::LogFull);
@@ -85,7 +85,7 @@ impl Session {
             machine: Some(machine),
             left: None,
             logged: Vec::new(alloc),
-            came,
+            came: Vec::new(alloc),
         })
     }
 
@@ -300,7 +300,6 @@ impl Session {
         if let Err(refused) = machine.record(i, outcome, back, opened) {
             return Err(fault_of(refused.cause));
         }
-        count_one(&mut self.came, i);
         Ok(())
     }
 
@@ -341,13 +340,26 @@ impl Session {
         }
     }
 
-    // How many outcomes came for thread i.
+    // How many outcomes came for thread i, and none where there is no such thread.
     fn came_for(&self, i: usize) -> u32
         ensures { result ≡ came_for self.now i }
     {
-        match self.came.as_slice().get(i) {
-            Some(count) => *count,
-            None => 0,
+        match &self.machine {
+            Some(machine) => came_in(machine, i),
+            None => match self.came.as_slice().get(i) {
+                Some(count) => *count,
+                None => 0,
+            },
+        }
+    }
+
+    // How many threads there are.
+    fn len(&self) -> usize
+        ensures { result ≡ length (counts_of self.now) }
+    {
+        match &self.machine {
+            Some(machine) => machine.len(),
+            None => self.came.len(),
         }
     }
 
@@ -355,7 +367,7 @@ impl Session {
     pub fn unused(&self, i: usize) -> Result<u64, LibraryFault>
         ensures { IfOk result (λ n. n ≡ unused_of self.now i) }
     {
-        if i >= self.came.len() {
+        if i >= self.len() {
             return Err(LibraryFault::NoThread);
         }
         let logged = match self.logged.as_slice().get(i) {
@@ -384,14 +396,19 @@ impl Session {
         stopped.map_err(fault_of)
     }
 
-    /// The run is over. Its log is kept, with its end where all threads have ended.
-    pub fn finish(&mut self) -> Result<RunEnd, LibraryFault>
+    /// The run is over. Its log is kept, with its end where all threads have ended, and how many outcomes came.
+    pub fn finish(&mut self, alloc: Global) -> Result<RunEnd, LibraryFault>
         ensures done { IfOk result (λ words. HasFinished words self.old self.new) }
         ensures refused { OnErr result (self.new ≡ self.old) }
     {
+        let came = match &self.machine {
+            Some(machine) => counts_in(alloc, machine)?,
+            None => return Err(LibraryFault::Over),
+        };
         let Some(machine) = self.machine.take() else {
             return Err(LibraryFault::Over);
         };
+        self.came = came;
         let have_ended = machine.have_ended();
         let left = machine.finish();
         let words = run_end(left.stop, have_ended, left.sink.bytes());
@@ -440,10 +457,26 @@ fn outcomes_by(
     Ok(outcomes)
 }
 
-fn count_one(counts: &mut Vec<u32>, i: usize) {
-    if let Some(count) = counts.get_mut(i) {
-        *count = count.saturating_add(1);
+// How many outcomes came for thread i of a machine, and none where there is no such thread.
+fn came_in(machine: &Machine<MemorySink, u64>, i: usize) -> u32
+    ensures { result ≡ get_or (counts_in machine.now.whole) i 0 }
+{
+    if i < machine.len() {
+        machine.came(i)
+    } else {
+        0
     }
+}
+
+// By thread how many outcomes came.
+fn counts_in(alloc: Global, machine: &Machine<MemorySink, u64>) -> Result<Vec<u32>, AllocError>
+    ensures { IfOk result (λ came. came.items ≡ counts_in machine.now.whole) }
+{
+    let mut came = Vec::new(alloc);
+    for i in 0..machine.len() {
+        came.push(came_in(machine, i))?;
+    }
+    Ok(came)
 }
 
 fn phase_code(phase: &Phase) -> u32

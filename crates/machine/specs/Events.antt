@@ -1,7 +1,7 @@
 -- Believed: a contract of the headline stands on it.
 -- When a machine refuses an event, and what it makes of one.
 use Rattle.posix_terms.specs.declared.outcome.Given.{Given}
-use Rattle.std.specs.Prelude.{◌≡◌, ℕ, Bool, true, false, Option, Some, None, Result, Ok, Err}
+use Rattle.std.specs.Prelude.{◌≡◌, ℕ, ◌+◌, Bool, true, false, Option, Some, None, Result, Ok, Err}
 use Rattle.input_log.specs.Format.{record_text}
 use Rattle.input_log.specs.Writing.{FailsInside, with_record}
 use Rattle.lock_machine.specs.declared.refused.LockRefused as calls
@@ -99,12 +99,14 @@ record_for w i o outcome =
     let t : Thread = thread_at w i in
     record_of i t.came (as_logged w.settings.version (as_it_comes w i (given_for o outcome)))
 
--- the record was taken whole, the run grows by the outcome, and the doors are where they belong
+-- the record was taken whole, the run grows by the outcome, which is counted, and the doors are
+-- where they belong
 pub record IsRecorded (D : Type 0) (i : ℕ) (o : Outing) (outcome : Outcome) (back opened : Option D)
     (old new : Shown D) : Type 0 where
   pub running : old.stop ≡ None
   pub outside : phase_at old.whole i ≡ phase.Outside o
   pub grows : Grows (Brings (given_for o outcome)) (Advances i) old.whole new.whole
+  pub counted : (thread_at new.whole i).came ≡ (thread_at old.whole i).came + 1
   pub rest : new ≡ record old {
     whole = new.whole;
     log = with_record old.log (record_for old.whole i o outcome);

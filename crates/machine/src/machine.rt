@@ -120,6 +120,14 @@ impl<S: LogSink, D: Drop> Machine<S, D> {
         self.calls.phase(i)
     }
 
+    /// How many outcomes came for thread i.
+    pub fn came(&self, i: usize) -> u32
+        requires { i < length self.now.whole.threads }
+        ensures { result ≡ (thread_at self.now.whole i).came }
+    {
+        self.calls.came(i)
+    }
+
     /// Whether thread i has the turn. An attempt without it is refused. It is the turn of the definition, at the end of
     /// whichever run leads to the machine (`shown`).
     pub fn has_turn(&self, i: usize) -> bool

@@ -25,7 +25,7 @@ use Rattle.std.proofs.raw_atomic.Walks.{proved_at}
 use Rattle.std.proofs.ResultValues.{and_tt}
 use Rattle.std.proofs.alloc.Global.TheLaws as heap_laws
 use Rattle.std.specs.contracts.impls.GlobalAllocator.TheImpl.{ghosts}
-use Rattle.loose_box.proofs.Values.{both, Loose, loose_good, loose_in}
+use Rattle.loose_box.specs.Values.{both, Loose, loose_good, loose_in}
 use Rattle.detio_c.proofs.Values.{Z, R, Hd, word, word_good, handle_out, ptr_good}
 use Rattle.detio_c.specs.contracts.handle.Handle.into_loose as f
 use Rattle.detio_c.proofs.handle.Handle.into_loose.Statement.{statement}

@@ -19,7 +19,7 @@ use denote.Triple.Walked.{Stays, walk_of, says, stay_dropped, Goes-dropped, ends
 use Rattle.std.proofs.raw_atomic.Walks.{proved_at}
 use Rattle.std.proofs.alloc.Global.TheLaws as heap_laws
 use Rattle.std.specs.contracts.impls.GlobalAllocator.TheImpl.{ghosts}
-use Rattle.loose_box.proofs.Values.{both, Loose, loose_good, loose_out}
+use Rattle.loose_box.specs.Values.{both, Loose, loose_good, loose_out}
 use Rattle.detio_c.proofs.Values.{Z, R, word, word_good, handle_in}
 use Rattle.detio_c.specs.contracts.handle.Handle.of as f
 use Rattle.detio_c.proofs.handle.Handle.of.Statement.{statement}

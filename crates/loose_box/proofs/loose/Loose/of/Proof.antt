@@ -33,7 +33,7 @@ use Rattle.std.specs.Box.Ownership.{box_owns}
 use Rattle.std.proofs.BoxSteps.Form as box
 use Rattle.std.proofs.BoxSteps.Steps.{box_out, box_in}
 use Rattle.std.proofs.raw_atomic.Walks.{proved_at, leaves}
-use Rattle.loose_box.proofs.Values.{both, loose_good, loose_in}
+use Rattle.loose_box.specs.Values.{both, loose_good, loose_in}
 use Rattle.std.specs.contracts.boxed.Box.into_raw_with_allocator as callee
 use Rattle.std.proofs.boxed.Box.into_raw_with_allocator.Met.{met}
 use Rattle.loose_box.specs.contracts.loose.Loose.of.{ended, clauses}
