@@ -16,6 +16,7 @@ ghost use Rattle.lock_machine.specs.declared.outside.Progress.TheVariants as pro
 use crate::driver::Driver;
 use crate::log::Log;
 use crate::players::first_players;
+use crate::watch::WatchesRun;
 use input_log::{Header, Record};
 use lock_machine::{LockMachine, LockRefused, Phase, Progress, machines_show};
 use lock_model::{arising_states, one_event, turn_order};
@@ -47,8 +48,12 @@ impl Driver {
 
     // Makes the events of the plain schedule, to its end, or until the outcome of a thread does not
     // answer, which is returned. Once each thread has gone on as far as it can, only one that made an
-    // attempt can go on again.
-    pub fn run(&mut self, alloc: Global) -> Result<Option<usize>, AllocError>
+    // attempt can go on again. `watch` is shown each of these.
+    pub fn run<W: WatchesRun>(
+        &mut self,
+        alloc: Global,
+        watch: &mut W,
+    ) -> Result<Option<usize>, AllocError>
         requires { (input : Inputs) × Begins input (played_of self.old) }
         ensures { IfOk result (λ diverged. (input : Inputs) → Begins input (played_of self.old)
             → Ends input diverged (played_of self.new)) }
@@ -63,6 +68,7 @@ impl Driver {
             let Some(i) = self.attempt_next()? else {
                 return Ok(None);
             };
+            watch.reached(self.machine.rows(), self.log.records());
             if self.go_on(alloc, i)? {
                 return Ok(Some(i));
             }
@@ -92,6 +98,7 @@ impl Driver {
     // Where no thread can go on without the turn: the attempts that fail are skipped, and the next
     // one is made by the thread that has the turn then. Returns that thread, if there is one and it
     // could.
+    #[inline(always)]
     fn attempt_next(&mut self) -> Result<Option<usize>, AllocError>
         ensures event { IfOk result (λ made. AttemptsNext made (played_of self.old)
             (played_of self.new)) }

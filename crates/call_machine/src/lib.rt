@@ -6,8 +6,9 @@
 //! came to its end before all threads had ended: at the end of a list, at an outcome that does not
 //! answer, or at a full clock. By the contract its history is legal, its turns rise, and the log
 //! covers it; by `plain_runs_agree` there is one plain run of given scripts, outcomes and settings.
-//! A [`PlainFault`] says why there was no run: wrong numbers, wrong settings or no memory. The
-//! machine for a driver of your own is here too, as [`Machine`].
+//! A [`PlainFault`] says why there was no run: wrong numbers, wrong settings or no memory.
+//! [`plain_run_watched`] also shows a [`WatchesRun`] how far the run has come. The machine for a
+//! driver of your own is here too, as [`Machine`].
 //!
 //! ```rust
 //! use call_machine::plain_run;
@@ -39,6 +40,7 @@ mod log;
 mod plain;
 mod players;
 mod run;
+mod watch;
 
 pub use fault::PlainFault;
 pub use history::History;
@@ -46,4 +48,5 @@ pub use laws::{logs_of_plain_runs, logs_of_runs, plain_runs_agree};
 pub use lock_machine::Asked;
 pub use machine::{Attempt, Finished, Left, Machine, NotRecorded, Outing, Phase, Refused, Stop};
 pub use plain::Plain;
-pub use run::plain_run;
+pub use run::{plain_run, plain_run_watched};
+pub use watch::{NoWatch, WatchesRun};

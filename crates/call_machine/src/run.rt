@@ -14,6 +14,7 @@ use crate::driver::Driver;
 use crate::fault::PlainFault;
 use crate::laws::logs_of_plain_runs;
 use crate::plain::Plain;
+use crate::watch::{NoWatch, WatchesRun};
 use input_log::Header;
 use lock_machine::machines_show;
 use lock_model::{arising_states, outcomes_that_came, real_runs};
@@ -58,6 +59,31 @@ pub fn plain_run(
           settings = settings;
         })) plain.history.rows plain.log) }
 {
+    plain_run_watched(alloc, scripts, outcomes, settings, &mut NoWatch)
+}
+
+/// Runs scripts as [`plain_run`] does, and shows `watch` how far the run has come.
+pub fn plain_run_watched<W: WatchesRun>(
+    alloc: Global,
+    scripts: Vec<Script>,
+    outcomes: Vec<Outcomes>,
+    settings: Settings,
+    watch: &mut W,
+) -> Result<Plain, PlainFault>
+    ensures run { Runs result (record {
+      scripts = scripts.items;
+      outcomes = outcomes.items;
+      settings = settings;
+    }) }
+    ensures legal { IfOk result (λ plain. IsLegal settings plain.history.rows) }
+    ensures rising { IfOk result (λ plain. AreRising plain.history.rows) }
+    ensures covered { IfOk result (λ plain. IsCovered
+        (header_of (record {
+          scripts = scripts.items;
+          outcomes = outcomes.items;
+          settings = settings;
+        })) plain.history.rows plain.log) }
+{
     if !counts_fit(scripts.len(), outcomes.len()) {
         return Err(PlainFault::Threads);
     }
@@ -67,7 +93,7 @@ pub fn plain_run(
     laws();
     let header = Header::new(scripts.len() as u16, settings);
     let mut driver = Driver::new(alloc, scripts, outcomes, header)?;
-    let diverged = driver.run(alloc)?;
+    let diverged = driver.run(alloc, watch)?;
     Ok(driver.finish(alloc, diverged)?)
 }
 

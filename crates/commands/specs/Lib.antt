@@ -4,6 +4,7 @@ pub mod Tells
 pub mod TurnsKept
 pub mod Ran
 pub mod Replays
+pub mod CommandEnds
 pub mod Records
 pub mod Upgrades
 pub mod Makes

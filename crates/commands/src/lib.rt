@@ -7,14 +7,15 @@
 //! error of the writer `errors`. [`record_over`] makes its log, a [`LogTo`], just before the run,
 //! and asks for one outside for each script, of which none gave anything yet. [`upgrade_over`] and
 //! [`make_over`] make their file, a [`NewFile`], only when they have the bytes of the new log; by
-//! [`what_is_shown_is_made`] the second is the inverse of [`show_over`]. [`DEFAULTS`] are the
-//! settings where no option says otherwise. [`RunOptions`] have the [`View`] in which a run is
-//! printed, and by them it is held to what the texts of its scripts expect: a bad expectation is a
-//! fault, and the first unmet one has a line after the run's own last one. [`told_of`] replays for a
-//! command that prints something else of what the threads saw.
+//! [`what_is_shown_is_made`] the second is the inverse of [`show_over`]. [`plain_over`] and
+//! [`replay_over`] show a [`WatchesRun`] how far their run has come. [`DEFAULTS`] are the settings
+//! where no option says otherwise. [`RunOptions`] have the [`View`] in which a run is printed, and
+//! by them it is held to what the texts of its scripts expect: a bad expectation is a fault, and the
+//! first unmet one has a line after the run's own last one. [`told_of`] replays for a command that
+//! prints something else of what the threads saw.
 //!
 //! ```rust
-//! use commands::{DEFAULTS, RunOptions, Source, View, plain_over};
+//! use commands::{DEFAULTS, NoWatch, RunOptions, Source, View, plain_over};
 //!
 //! let mut sources = Vec::new(alloc);
 //! sources.push(Source {
@@ -29,7 +30,9 @@
 //!     why: true,
 //!     expect: true,
 //! };
-//! let status = plain_over(alloc, DEFAULTS, options, sources, &mut output, &mut errors)?;
+//! let status = plain_over(
+//!     alloc, DEFAULTS, options, sources, &mut NoWatch, &mut output, &mut errors,
+//! )?;
 //! // Another status would say that there was no memory.
 //! if status == 0 {
 //!     assert!(rt; output.as_slice() == b"0 0 open fail ENOENT\nend\n".as_slice());
@@ -46,6 +49,7 @@ mod show;
 mod told;
 mod upgrade;
 
+pub use call_machine::{NoWatch, WatchesRun};
 pub use command_inputs::{DEFAULTS, RunOptions, View, settings_of};
 pub use command_texts::{
     LARGEST_FILE, Source, SourceFault, TextReader, cannot_write, no_memory, print, read_once,

@@ -5,7 +5,7 @@ ghost use Rattle.commands.specs.Ran.{HasRun, NoReplayPrints, RunRan, ThreadsRan}
 
 use crate::record::actors;
 use crate::told::other_threads;
-use call_machine::{Plain, Stop};
+use call_machine::{Plain, Stop, WatchesRun};
 use command_inputs::no_log;
 use command_texts::Printed;
 use posix_terms::{PackedRow, Transcripts};
@@ -84,12 +84,17 @@ impl Run {
 }
 
 /// The replay of a log with these scripts, as far as it came; or what is printed where there was none.
-/// An error means out of memory.
-pub fn run_ran(alloc: Global, log: &[u8], scripts: Vec<Script>) -> Result<Ran, AllocError>
+/// An error means out of memory. `watch` is shown how far the run has come.
+pub fn run_ran<V: WatchesRun>(
+    alloc: Global,
+    log: &[u8],
+    scripts: Vec<Script>,
+    watch: &mut V,
+) -> Result<Ran, AllocError>
     ensures { IfOk result (RunRan log.now scripts.items) }
 {
     let count = scripts.len();
-    match replay_run(alloc, log, scripts) {
+    match replay_run(alloc, log, scripts, watch) {
         Ok(RunByLog { plain, .. }) => Ok(Ran::Run(Run::of_plain(plain))),
         Err(fault) => Ok(Ran::Fault(no_replay(alloc, log, count, fault)?)),
     }

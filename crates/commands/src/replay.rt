@@ -5,6 +5,7 @@ ghost use Rattle.commands.specs.Replays.{RanPrints};
 ghost use Rattle.commands.specs.Ran.{RunRan, ThreadsRan};
 
 use crate::ran::{Ran, run_ran, threads_ran};
+use call_machine::WatchesRun;
 use command_inputs::{RunOptions, ToReplay, ToRun, run_shown, to_replay, to_run};
 use command_texts::{Printed, Source, TextReader, no_memory, print};
 use posix_terms::Bytes;
@@ -18,12 +19,14 @@ use std::thread::Threads;
 /// transcripts, in the view that is asked, and how that ended, with the first reply that is not as
 /// its script expects if that is asked too; or one line for the first fault; the answer
 /// is the exit status. Where there is no memory, a file cannot be read or the output cannot be
-/// written, that is the fault. An error is one of the writer `errors`.
-pub fn replay_over<R: TextReader + Drop, W: Write, E: Write>(
+/// written, that is the fault. `watch` is shown how far the run has come, until something is
+/// printed. An error is one of the writer `errors`.
+pub fn replay_over<R: TextReader + Drop, V: WatchesRun, W: Write, E: Write>(
     alloc: Global,
     options: RunOptions,
     log: Source<'_, R>,
     sources: Vec<Source<'_, R>>,
+    watch: &mut V,
     output: &mut W,
     errors: &mut E,
 ) -> io::Result<u8>
@@ -35,7 +38,9 @@ pub fn replay_over<R: TextReader + Drop, W: Write, E: Write>(
         status (W.contents output.old) (W.contents output.new)
         (E.contents errors.old) (E.contents errors.new)) }
 {
-    match replay_printed(alloc, options, log, sources) {
+    let printed = replay_printed(alloc, options, log, sources, watch);
+    watch.ended();
+    match printed {
         Ok(printed) => print(&printed, output, errors),
         Err(AllocError) => no_memory(errors),
     }
@@ -67,11 +72,12 @@ pub fn replay_threads_over<R: TextReader + Drop, W: Write, E: Write, T: Threads 
 }
 
 // What is to be printed.
-fn replay_printed<R: TextReader + Drop>(
+fn replay_printed<R: TextReader + Drop, V: WatchesRun>(
     alloc: Global,
     options: RunOptions,
     log: Source<'_, R>,
     sources: Vec<Source<'_, R>>,
+    watch: &mut V,
 ) -> Result<Printed, AllocError>
     ensures { IfOk result (
         ReplayPrints RunRan options
@@ -79,7 +85,7 @@ fn replay_printed<R: TextReader + Drop>(
         (map (λ s. (s.path.now, R.remaining s.reader)) sources.entry.items)) }
 {
     match to_replay(alloc, log, sources)? {
-        ToReplay::Texts(log, texts) => texts_replayed(alloc, options, &log, &texts),
+        ToReplay::Texts(log, texts) => texts_replayed(alloc, options, &log, &texts, watch),
         ToReplay::Fault(printed) => Ok(printed),
     }
 }
@@ -104,17 +110,18 @@ fn replay_threads_printed<R: TextReader + Drop, T: Threads + Wait + Sync>(
 }
 
 // What is to be printed for texts that were read.
-fn texts_replayed(
+fn texts_replayed<V: WatchesRun>(
     alloc: Global,
     options: RunOptions,
     log: &Bytes,
     texts: &[Bytes],
+    watch: &mut V,
 ) -> Result<Printed, AllocError>
     ensures { IfOk result (TextsReplay RunRan options log.now texts.now) }
 {
     match to_run(alloc, options.expect, texts)? {
         ToRun::Scripts(scripts) => {
-            let ran = run_ran(alloc, log.as_slice(), scripts)?;
+            let ran = run_ran(alloc, log.as_slice(), scripts, watch)?;
             ran_printed(alloc, options, log, texts, ran)
         }
         ToRun::Fault(printed) => Ok(printed),

@@ -29,6 +29,7 @@ use host_doors::Outside;
 use input::{is_read_twice, open_scripts, open_source, read_twice};
 use log_file::{LogFile, is_script, log_is_script};
 use output::Output;
+use progress::RunLine;
 use record::{HostOutsides, NewOutsides, run_record};
 use refusals::{Host, Refusals};
 use std::alloc::AllocError;
@@ -196,6 +197,7 @@ fn run_plain(host: Host<'_>, matches: &ArgMatches<'_>) -> Result<u8, AllocError>
         settings,
         run_options(matches),
         sources,
+        &mut RunLine::new(rt),
         &mut Output::new(host),
         &mut rt.stderr(),
     );
@@ -228,7 +230,16 @@ fn run_replay<T: Threads + Wait + Sync>(
             &mut errors,
         )
     } else {
-        replay_over(alloc, options, log, sources, &mut output, &mut errors)
+        let mut line = RunLine::new(rt);
+        replay_over(
+            alloc,
+            options,
+            log,
+            sources,
+            &mut line,
+            &mut output,
+            &mut errors,
+        )
     };
     Ok(status.unwrap_or(4))
 }

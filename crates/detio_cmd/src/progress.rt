@@ -1,4 +1,6 @@
+use commands::WatchesRun;
 use explore_commands::ReportsProgress;
+use posix_terms::PackedRow;
 use std::fs;
 use std::os::unix::fs::FileTypeExt;
 use std::time::{Duration, Instant};
@@ -26,21 +28,32 @@ impl<'a> ProgressLine<'a> {
             printed: None,
         }
     }
+
+    // Where the line is to be printed now: how long ago they began.
+    fn due(&mut self) -> Option<Duration> {
+        let begun = self.begun?;
+        let now = Instant::now(self.rt).ok()?;
+        if now.duration_since(self.printed.unwrap_or(begun)) < Duration::from_secs(1) {
+            return None;
+        }
+        self.printed = Some(now);
+        Some(now.duration_since(begun))
+    }
+
+    // Takes the line away again, if it is there.
+    fn clear(&mut self) {
+        if self.printed.take().is_some() {
+            let _ = eprint!(self.rt; "\r\u{1b}[K");
+        }
+    }
 }
 
 impl ReportsProgress for ProgressLine<'_> {
     fn made(&mut self, runs: u64, of: u64, groups: usize) {
-        let Some(begun) = self.begun else {
+        let Some(passed) = self.due() else {
             return;
         };
-        let Ok(now) = Instant::now(self.rt) else {
-            return;
-        };
-        if now.duration_since(self.printed.unwrap_or(begun)) < Duration::from_secs(1) {
-            return;
-        }
-        self.printed = Some(now);
-        let rate = runs / now.duration_since(begun).as_secs().max(1);
+        let rate = runs / passed.as_secs().max(1);
         let _ = if groups == 0 {
             eprint!(self.rt; "\r{runs} of {of} runs, {rate} a second\u{1b}[K")
         } else {
@@ -48,11 +61,59 @@ impl ReportsProgress for ProgressLine<'_> {
         };
     }
 
-    // Takes the line away again, if it is there.
     fn ended(&mut self) {
-        if self.printed.take().is_some() {
-            let _ = eprint!(self.rt; "\r\u{1b}[K");
+        self.clear();
+    }
+}
+
+// Says on a terminal how far one run has come, once a second, in one line.
+#[derive(Drop)]
+pub(crate) struct RunLine<'a> {
+    line: ProgressLine<'a>,
+    // How many records the log has: 0 without a log.
+    records: usize,
+    // After how many more attempts the clock of the host is read.
+    left: u32,
+}
+
+impl<'a> RunLine<'a> {
+    pub(crate) fn new(rt: &'a HostRuntime) -> RunLine<'a> {
+        RunLine {
+            line: ProgressLine::new(rt),
+            records: 0,
+            left: ATTEMPTS,
         }
+    }
+}
+
+// Some milliseconds.
+const ATTEMPTS: u32 = 4096;
+
+impl WatchesRun for RunLine<'_> {
+    fn begins(&mut self, records: usize) {
+        self.records = records;
+    }
+
+    fn reached(&mut self, rows: &[PackedRow], came: u32) {
+        self.left = self.left.saturating_sub(1);
+        if self.left > 0 {
+            return;
+        }
+        self.left = ATTEMPTS;
+        if self.line.due().is_none() {
+            return;
+        }
+        let (turns, of) = (rows.len(), self.records);
+        let clock = rows.last().map(|row| row.turn().clock).unwrap_or(0);
+        let _ = if of == 0 {
+            eprint!(self.line.rt; "\r{turns} turns, clock {clock}\u{1b}[K")
+        } else {
+            eprint!(self.line.rt; "\r{turns} turns, clock {clock}, {came} of {of} records\u{1b}[K")
+        };
+    }
+
+    fn ended(&mut self) {
+        self.line.clear();
     }
 }
 

@@ -7,7 +7,7 @@ use crate::fault::ReplayFault;
 use crate::outcomes::outcomes_by;
 use crate::replayed::Replayed;
 use crate::unused::{stop_by, unused_record};
-use call_machine::{Plain, PlainFault, Stop, plain_run};
+use call_machine::{NoWatch, Plain, PlainFault, Stop, WatchesRun, plain_run_watched};
 use input_log::{LogText, decode_front};
 use std::alloc::Global;
 use thread_scripts::Script;
@@ -23,7 +23,7 @@ use thread_scripts::Script;
 pub fn replay(alloc: Global, log: &[u8], scripts: Vec<Script>) -> Result<Replayed, ReplayFault>
     ensures { Replays log.now scripts.items result }
 {
-    let RunByLog { log, plain } = run_by_text(alloc, log, scripts)?;
+    let RunByLog { log, plain } = run_by_text(alloc, log, scripts, &mut NoWatch)?;
     told(&log, plain)
 }
 
@@ -36,12 +36,17 @@ pub struct RunByLog {
 
 /// Runs scripts as [`replay`] does, and returns the run as far as it came, with its history. When
 /// nothing stopped it and a record was not used, its stop is `Diverged`. A fault is that of the log,
-/// another number of threads, or lack of memory.
-pub fn replay_run(alloc: Global, log: &[u8], scripts: Vec<Script>) -> Result<RunByLog, ReplayFault>
+/// another number of threads, or lack of memory. `watch` is shown how far the run has come.
+pub fn replay_run<W: WatchesRun>(
+    alloc: Global,
+    log: &[u8],
+    scripts: Vec<Script>,
+    watch: &mut W,
+) -> Result<RunByLog, ReplayFault>
     ensures run { IfOk result (λ by. IsReplayRun log.now scripts.items by.log by.plain) }
     ensures fault { IfErr result (IsNoReplay log.now (length scripts.items)) }
 {
-    let RunByLog { log, plain } = run_by_text(alloc, log, scripts)?;
+    let RunByLog { log, plain } = run_by_text(alloc, log, scripts, watch)?;
     let stop = stop_by(&log, plain.stop, plain.history.rows());
     Ok(RunByLog {
         log,
@@ -50,10 +55,11 @@ pub fn replay_run(alloc: Global, log: &[u8], scripts: Vec<Script>) -> Result<Run
 }
 
 // Runs scripts by the log at the front of a text.
-pub fn run_by_text(
+pub fn run_by_text<W: WatchesRun>(
     alloc: Global,
     text: &[u8],
     scripts: Vec<Script>,
+    watch: &mut W,
 ) -> Result<RunByLog, ReplayFault>
     ensures run { IfOk result (λ by. IsRunByText text.now scripts.items by.log by.plain) }
     ensures fault { IfErr result (IsNoReplay text.now (length scripts.items)) }
@@ -63,7 +69,8 @@ pub fn run_by_text(
         return Err(ReplayFault::Threads);
     }
     let outcomes = outcomes_by(alloc, scripts.len(), log.records.as_slice())?;
-    match plain_run(alloc, scripts, outcomes, log.header.settings()) {
+    watch.begins(log.records.as_slice().len());
+    match plain_run_watched(alloc, scripts, outcomes, log.header.settings(), watch) {
         Ok(plain) => Ok(RunByLog { log, plain }),
         Err(PlainFault::Memory) => Err(ReplayFault::Memory),
         // A log has 1 to 16 threads, and settings of a run.

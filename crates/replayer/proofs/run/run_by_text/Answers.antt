@@ -8,7 +8,7 @@ use Rattle.replayer.proofs.Fronts.{front_is_log, settings_fit, threads_fit}
 use Rattle.replayer.proofs.run.run_by_text.Goals as goal
 
 pub unreachable-requires : goal.unreachable-requires
-unreachable-requires c =
+unreachable-requires g c =
     let log = c.in_ok-log.log in
     let front : IsFront c.args.text.now log = search rules in
     let is : IsLog log = front_is_log c.args.text.now log front in
@@ -18,7 +18,7 @@ unreachable-requires c =
     search rules
 
 pub unreachable-requires-in-Err-Settings : goal.unreachable-requires-in-Err-Settings
-unreachable-requires-in-Err-Settings c =
+unreachable-requires-in-Err-Settings g c =
     let log = c.in_ok-log.log in
     let front : IsFront c.args.text.now log = search rules in
     let is : IsLog log = front_is_log c.args.text.now log front in

@@ -5,10 +5,10 @@ use Rattle.machine.specs.Starting.{are_settings}
 use Rattle.call_machine.specs.Playing.{played_of}
 use Rattle.call_machine.specs.Setup.{Inputs}
 use Rattle.call_machine.proofs.Concluding.{begins_of, plain_covered, plain_legal, plain_rising, plain_run_is}
-use Rattle.call_machine.proofs.run.plain_run.Goals as goal
+use Rattle.call_machine.proofs.run.plain_run_watched.Goals as goal
 
 pub run-requires : goal.run-requires
-run-requires c =
+run-requires g c =
     let input : Inputs = record {
       scripts = c.args.scripts.items;
       outcomes = c.args.outcomes.items;
@@ -21,7 +21,7 @@ run-requires c =
     )
 
 pub returns-clause-run : goal.returns-clause-run
-returns-clause-run c =
+returns-clause-run g c =
     let input : Inputs = record {
       scripts = c.args.scripts.items;
       outcomes = c.args.outcomes.items;
@@ -40,7 +40,7 @@ returns-clause-run c =
     plain_run_is c.laws.ensures.clocks input diverged p plain e c.in_ok-finish.ensures threads settings
 
 pub returns-clause-legal : goal.returns-clause-legal
-returns-clause-legal c =
+returns-clause-legal g c =
     let input : Inputs = record {
       scripts = c.args.scripts.items;
       outcomes = c.args.outcomes.items;
@@ -57,7 +57,7 @@ returns-clause-legal c =
     c.in_ok-finish.ensures
 
 pub returns-clause-rising : goal.returns-clause-rising
-returns-clause-rising c =
+returns-clause-rising g c =
     let input : Inputs = record {
       scripts = c.args.scripts.items;
       outcomes = c.args.outcomes.items;
@@ -74,7 +74,7 @@ returns-clause-rising c =
     c.in_ok-finish.ensures
 
 pub returns-clause-covered : goal.returns-clause-covered
-returns-clause-covered c =
+returns-clause-covered g c =
     let input : Inputs = record {
       scripts = c.args.scripts.items;
       outcomes = c.args.outcomes.items;
