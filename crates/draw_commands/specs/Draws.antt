@@ -33,6 +33,7 @@ path_text path = codes " " +++ path
 abbrev pub title_text : List (List ℕ × Option (List ℕ)) → List ℕ
 title_text sources = codes "Calls of" ++ flat_map (λ s. path_text s.0) sources
 
+-- the name of the plain run in its picture
 abbrev pub plain_name : List ℕ
 plain_name = codes "the plain run"
 
@@ -80,26 +81,25 @@ LogDraws options log sources drawn =
 
 -- ## Two runs
 
--- what is drawn of a run with this name, and of what came of another
-abbrev pub BothDraw : DrawOptions → List ℕ → List (List ℕ) → List ℕ → Run → List ℕ → Ran → Drawn
+-- what is drawn of a run, with its name, and of what came of another, which has this name
+abbrev pub BothDraw : DrawOptions → List ℕ → List (List ℕ) → List ℕ × Run → List ℕ → Ran → Drawn
     → Type 0
-BothDraw options title texts name run other_name (came.Run other) drawn =
-    TwoRunsDraw options title texts name run other_name other drawn
-BothDraw options title texts name run other_name (came.Fault fault) drawn =
-    drawn ≡ draws.Fault fault
+BothDraw options title texts one name (came.Run other) drawn =
+    TwoRunsDraw options title texts one (name, other) drawn
+BothDraw options title texts one name (came.Fault fault) drawn = drawn ≡ draws.Fault fault
 
--- what is drawn of a run with this name, and of the replay of a second log: its path, and its bytes
-abbrev pub SecondDraws : DrawOptions → List ℕ → List (List ℕ) → List ℕ → Run → List ℕ × List ℕ
+-- what is drawn of a run, with its name, and of the replay of a second log: its path, and its bytes
+abbrev pub SecondDraws : DrawOptions → List ℕ → List (List ℕ) → List ℕ × Run → List ℕ × List ℕ
     → Drawn → Type 0
-SecondDraws options title texts name run other drawn =
+SecondDraws options title texts one other drawn =
     (ran : Ran) × TextsCome (RunRan other.1) texts ran
-    × BothDraw options title texts name run other.0 ran drawn
+    × BothDraw options title texts one other.0 ran drawn
 
 -- what is drawn of what came of the replay of a log with this path, and of a second log
 abbrev pub FirstDraws : DrawOptions → List ℕ → List (List ℕ) → List ℕ → Ran → List ℕ × List ℕ
     → Drawn → Type 0
 FirstDraws options title texts path (came.Run run) other drawn =
-    SecondDraws options title texts path run other drawn
+    SecondDraws options title texts (path, run) other drawn
 FirstDraws options title texts path (came.Fault fault) other drawn = drawn ≡ draws.Fault fault
 
 -- what is drawn of the replays of two logs

@@ -54,11 +54,12 @@ abbrev pub place_of : Verdict → Option (ℕ × ℕ)
 place_of verdicts.Same = None
 place_of (verdicts.Differs thread row) = Some (thread, row)
 
--- what is drawn of two runs: both, with the first row that differs, whole rows compared
-abbrev pub TwoRunsDraw : DrawOptions → List ℕ → List (List ℕ) → List ℕ → Run → List ℕ → Run
+-- what is drawn of two runs, each with its name: both, with the first row that differs, whole rows
+-- compared
+abbrev pub TwoRunsDraw : DrawOptions → List ℕ → List (List ℕ) → List ℕ × Run → List ℕ × Run
     → Drawn → Type 0
-TwoRunsDraw options title texts name run other_name other_run drawn =
-    (verdict : Verdict) × IsVerdictBy true run.transcripts other_run.transcripts verdict
-    × ((one : DrawnRun) × IsDrawn texts name run one
-    × ((other : DrawnRun) × IsDrawn texts other_name other_run other
-    × ArePictures options title (one ∷ other ∷ []) (place_of verdict) drawn))
+TwoRunsDraw options title texts one other drawn =
+    (verdict : Verdict) × IsVerdictBy true one.1.transcripts other.1.transcripts verdict
+    × ((first : DrawnRun) × IsDrawn texts one.0 one.1 first
+    × ((second : DrawnRun) × IsDrawn texts other.0 other.1 second
+    × ArePictures options title (first ∷ second ∷ []) (place_of verdict) drawn))

@@ -208,7 +208,7 @@ fn second_drawn(
 ) -> Result<Drawn, AllocError>
     ensures { IfOk result (
         SecondDraws options title.now texts.now
-        first.entry.name.now first.entry.run.now
+        (first.entry.name.now, first.entry.run.now)
         (other.entry.path.now, other.entry.text.now)) }
 {
     match log_ran(alloc, other.text, texts)? {

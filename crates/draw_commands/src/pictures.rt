@@ -66,7 +66,7 @@ pub fn two_drawn<'a>(
 ) -> Result<Drawn, AllocError>
     ensures { IfOk result (
         TwoRunsDraw options title.now texts.now
-        one.entry.name.now one.entry.run.now other.entry.name.now other.entry.run.now) }
+        (one.entry.name.now, one.entry.run.now) (other.entry.name.now, other.entry.run.now)) }
 {
     let verdict = compare_by(true, &one.run.transcripts, &other.run.transcripts);
     let first = drawn_run(alloc, texts, one)?;

@@ -4,7 +4,7 @@ ghost use Rattle.call_machine.specs.Plain.{counts_fit};
 ghost use Rattle.commands.specs.Ran.{RunRan};
 ghost use Rattle.draw_commands.specs.Runs.{PlainComes, TextsCome};
 
-use call_machine::{PlainFault, plain_run};
+use call_machine::{NoWatch, PlainFault, plain_run};
 use command_inputs::{ToRun, bad_settings, no_outcomes, to_run};
 use commands::{Ran, Run, run_ran};
 use posix_terms::{Bytes, Settings};
@@ -41,7 +41,7 @@ pub fn log_ran(alloc: Global, log: &[u8], texts: &[Bytes]) -> Result<Ran, AllocE
     ensures { IfOk result (TextsCome (RunRan log.now) texts.now) }
 {
     match to_run(alloc, false, texts)? {
-        ToRun::Scripts(scripts) => run_ran(alloc, log, scripts),
+        ToRun::Scripts(scripts) => run_ran(alloc, log, scripts, &mut NoWatch),
         ToRun::Fault(printed) => Ok(Ran::Fault(printed)),
     }
 }

@@ -1,6 +1,6 @@
 -- Believed: a contract of a command stands on it.
 -- The text of a box. Its fixed parts are the constants of `src/fixed.rt`.
-use Rattle.std.specs.Prelude.{ℕ, List, [], ◌++◌, Option, Some, None, codes}
+use Rattle.std.specs.Prelude.{ℕ, List, [], Option, Some, None, codes}
 use Rattle.std.specs.Fmt.{decimal}
 use Rattle.posix_terms.specs.Calls.{kind_of, word_of}
 use Rattle.answered_calls.specs.declared.answered.AnsweredCall.{AnsweredCall}

@@ -15,9 +15,11 @@ kind_by_reply outcome (reply.Fail error) = kind.Failure
 kind_by_reply (Some number) reply = kind.Outside
 kind_by_reply None reply = kind.Memory
 
+-- how a call came to its answer
 abbrev pub kind_of_row : AnsweredCall → RowKind
 kind_of_row c = kind_by_reply c.outcome c.row.now.reply
 
+-- the class of a kind in a page, and its category in a trace
 abbrev pub word_of_kind : RowKind → List ℕ
 word_of_kind kind.Memory = codes "memory"
 word_of_kind kind.Outside = codes "outside"

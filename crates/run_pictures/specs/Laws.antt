@@ -25,10 +25,11 @@ are_names [] = true
 are_names (b ∷ text) =
     (not (b == 38) || list_any (λ word. begins word text) names) && are_names text
 
--- A text that is escaped has harmless bytes alone, and a `&` only where one of the names begins
+-- a text that is escaped has harmless bytes alone
 abbrev pub EscapedIsHarmless : Type 0
 EscapedIsHarmless =
     (bytes : List ℕ) → All (λ b. b < 256) bytes → list_all is_harmless (escaped bytes) ≡ true
 
+-- each `&` of a text that is escaped begins a name
 abbrev pub EscapedHasNames : Type 0
 EscapedHasNames = (bytes : List ℕ) → All (λ b. b < 256) bytes → are_names (escaped bytes) ≡ true

@@ -6,6 +6,7 @@ use Rattle.run_pictures.specs.declared.drawn.DrawnRun.{DrawnRun}
 use Rattle.run_pictures.specs.declared.layout.CallBox.{CallBox}
 use Rattle.run_pictures.specs.declared.layout.LaidRun.{LaidRun}
 
+-- the calls of which these boxes are
 abbrev pub calls_of_boxes : List CallBox → List AnsweredCall
 calls_of_boxes boxes = map (λ b. b.call) boxes
 
@@ -13,8 +14,10 @@ calls_of_boxes boxes = map (λ b. b.call) boxes
 abbrev pub drawn_of : DrawnRun → List ℕ × List AnsweredCall
 drawn_of run = (run.name.now, run.calls.items)
 
+-- the name of a run that is laid out, and the calls of its boxes
 abbrev pub laid_of : LaidRun → List ℕ × List AnsweredCall
 laid_of run = (run.name.now, calls_of_boxes run.boxes.items)
 
+-- each run is laid out, in its order
 abbrev pub AreLaid : List DrawnRun → List LaidRun → Type 0
 AreLaid runs laid = map laid_of laid ≡ map drawn_of runs

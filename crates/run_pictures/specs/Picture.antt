@@ -1,6 +1,6 @@
 -- Believed: a contract of a command stands on it.
 -- The text of a picture. Its fixed parts are the constants of `src/fixed.rt`.
-use Rattle.std.specs.Prelude.{ℕ, List, [], ◌++◌, Option}
+use Rattle.std.specs.Prelude.{ℕ, List, Option}
 use Rattle.std.specs.Fmt.{decimal}
 use Rattle.std.specs.List.{flat_map}
 use Rattle.command_texts.specs.Transcripts.{◌+++◌}

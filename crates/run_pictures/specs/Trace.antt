@@ -17,6 +17,7 @@ use Rattle.run_pictures.specs.declared.traces.TimedCall.{TimedCall}
 abbrev pub shown_byte : ℕ → ℕ
 shown_byte b = if nat_le 32 b && nat_le b 126 then b else 63
 
+-- a text as a trace has it, in which what is not printable is `?`
 abbrev pub shown : List ℕ → List ℕ
 shown text = map shown_byte text
 
@@ -48,10 +49,12 @@ event_data t =
     (member (codes "tid") (number (unsigned t.call.thread))
     (member (codes "ts") (number (unsigned t.call.granted)) no_members))))))))
 
+-- the trace: an event for each call
 abbrev pub trace_data : List TimedCall → Data
 trace_data timed =
     object (member (codes "traceEvents") (array (items_of (map event_data timed))) no_members)
 
+-- the calls of a trace, without how long each is shown
 abbrev pub calls_of_timed : List TimedCall → List AnsweredCall
 calls_of_timed timed = map (λ t. t.call) timed
 

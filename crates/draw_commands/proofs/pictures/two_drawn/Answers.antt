@@ -14,7 +14,7 @@ returns c =
     let second = c.in_ok-second.second in
     IfOk-weaker c.pictures.result
     (ArePictures options title (first ∷ second ∷ []) (place_of verdict))
-    (TwoRunsDraw options title c.args.texts.now one.name.now one.run.now other.name.now other.run.now)
+    (TwoRunsDraw options title c.args.texts.now (one.name.now, one.run.now) (other.name.now, other.run.now))
     (λ drawn are. (
       verdict,
       c.compare_by-verdict.ensures,

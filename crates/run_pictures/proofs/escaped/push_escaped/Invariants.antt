@@ -1,4 +1,4 @@
-use Rattle.std.proofs.Common.{◌≡◌, ◌++◌, drop, map}
+use Rattle.std.proofs.Common.{◌≡◌, ◌++◌, drop}
 use Rattle.std.specs.List.{flat_map}
 use Rattle.run_pictures.specs.Escaped.{escaped_byte}
 use Rattle.run_pictures.proofs.escaped.push_escaped.Given as goal

@@ -1,4 +1,4 @@
-use Rattle.std.proofs.Common.{◌≡◌, ◌++◌, drop, map}
+use Rattle.std.proofs.Common.{◌≡◌, ◌++◌, drop}
 use Rattle.std.specs.List.{flat_map}
 use Rattle.run_pictures.specs.Picture.{tick_text}
 use Rattle.run_pictures.proofs.picture.push_ticks.Given as goal
