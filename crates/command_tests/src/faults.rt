@@ -1,6 +1,6 @@
 use crate::devices::{Device, numbered, sources};
-use crate::told::{Told, plain, with_turns};
-use commands::{DEFAULTS, plain_over};
+use crate::told::{Said, plain, with_turns};
+use commands::{DEFAULTS, NoWatch, plain_over};
 use posix_terms::Settings;
 use std::alloc::Global;
 use std::io;
@@ -102,13 +102,22 @@ fn a_file_is_read_up_to_its_greatest_size(rt: HostRuntime) -> Result<(), Fail> {
 }
 
 // What `plain` tells where its output cannot be written.
-fn plain_to_full_device(alloc: Global) -> io::Result<Told> {
+fn plain_to_full_device(alloc: Global) -> io::Result<Said> {
     let scripts = sources(alloc, &["close 0"])?;
     let mut full = Device::Broken;
     let mut errors: Vec<u8> = Vec::new(alloc);
     let options = with_turns(false);
-    let status = plain_over(alloc, DEFAULTS, options, scripts, &mut full, &mut errors);
-    Told::new(status, Vec::new(alloc), errors)
+    let watch = &mut NoWatch;
+    let status = plain_over(
+        alloc,
+        DEFAULTS,
+        options,
+        scripts,
+        watch,
+        &mut full,
+        &mut errors,
+    );
+    Said::new(status, Vec::new(alloc), errors)
 }
 
 #[test]

@@ -1,5 +1,5 @@
 use crate::devices::{Text, sources};
-use crate::recording::{LogFile, free_path, is_replayed, record_by_host};
+use crate::recording::{NewLogFile, free_path, is_replayed, record_by_host};
 use crate::told::replay_by_threads;
 use posix_terms::Settings;
 use std::alloc::{AllocError, Global};
@@ -79,7 +79,7 @@ fn scripts(alloc: Global, seed: u64) -> io::Result<Vec<String>> {
 fn is_replayed_by_threads(
     rt: &(impl Threads + Wait + Sync),
     settings: Settings,
-    log: LogFile<'_>,
+    log: NewLogFile<'_>,
     scripts: &[&str],
 ) -> io::Result<bool> {
     let told = record_by_host(rt, settings, log, scripts)?;
@@ -101,7 +101,7 @@ fn texts(alloc: Global, scripts: &[String]) -> Result<Vec<&str>, AllocError> {
 // Whether the run of this seed is replayed, by threads or on one.
 fn is_seed_replayed(
     rt: &(impl Threads + Wait + Sync),
-    log: LogFile<'_>,
+    log: NewLogFile<'_>,
     seed: u64,
     by_threads: bool,
 ) -> io::Result<bool> {
@@ -124,7 +124,7 @@ fn are_replayed(
 ) -> Result<bool, Fail> {
     let path = free_path(host, name)?;
     for seed in seeds {
-        if !is_seed_replayed(rt, LogFile::at(host, path.as_str()), seed, by_threads)? {
+        if !is_seed_replayed(rt, NewLogFile::at(host, path.as_str()), seed, by_threads)? {
             return Ok(false);
         }
     }

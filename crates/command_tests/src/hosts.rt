@@ -1,5 +1,5 @@
-use crate::recording::{LogFile, free_path, record_by_host, replayed};
-use crate::told::Told;
+use crate::recording::{NewLogFile, free_path, record_by_host, replayed};
+use crate::told::Said;
 use commands::DEFAULTS;
 use std::fs::{self, remove_file};
 use std::io;
@@ -14,7 +14,7 @@ const READERS: &[&str] = &[
 ];
 
 // Whether this says that each got its own.
-fn have_their_own(told: &Told) -> bool {
+fn have_their_own(told: &Said) -> bool {
     match str::from_utf8(told.output.as_slice()) {
         Ok(text) => {
             text.contains("read data 6c656674\n")
@@ -36,7 +36,10 @@ fn remove_files(host: HostRuntime) -> io::Result<()> {
 }
 
 // Whether each gets its own, and gets it again from the log once both files are gone.
-fn readers_are_replayed(rt: &(impl Threads + Wait + Sync), log: LogFile<'_>) -> io::Result<bool> {
+fn readers_are_replayed(
+    rt: &(impl Threads + Wait + Sync),
+    log: NewLogFile<'_>,
+) -> io::Result<bool> {
     make_files(log.host)?;
     let told = record_by_host(rt, DEFAULTS, log, READERS)?;
     remove_files(log.host)?;
@@ -46,7 +49,7 @@ fn readers_are_replayed(rt: &(impl Threads + Wait + Sync), log: LogFile<'_>) -> 
 #[test]
 fn each_thread_reads_the_file_that_it_opened(rt: HostRuntime) -> Result<(), Fail> {
     let path = free_path(rt, "two_files")?;
-    assert!(rt; readers_are_replayed(&rt, LogFile::at(rt, path.as_str()))?);
+    assert!(rt; readers_are_replayed(&rt, NewLogFile::at(rt, path.as_str()))?);
     remove_file(&rt, path.as_str())?;
     Ok(())
 }

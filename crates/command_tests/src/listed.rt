@@ -3,7 +3,7 @@ ghost use Rattle.recorder.specs.Each.{IsUnused};
 
 use crate::devices::sources;
 use crate::logs::{SHORT_WRITE, THREE_RECORDS, WITH_CLOCKS};
-use crate::recording::{LogFile, file_has, record};
+use crate::recording::{NewLogFile, file_has, record};
 use commands::DEFAULTS;
 use host_doors::{NoGate, ScriptDoors};
 use posix_terms::{Bytes, Errno, Given, OutKind, Outcome, Outcomes, Settings};
@@ -59,7 +59,7 @@ fn outside(alloc: Global, list: Outcomes) -> Result<Vec<ScriptDoors<NoGate>>, Al
 fn is_recorded(
     rt: &(impl Threads + Wait + Sync),
     settings: Settings,
-    log: LogFile<'_>,
+    log: NewLogFile<'_>,
     status: u8,
     printed: &str,
 ) -> io::Result<bool> {
@@ -71,7 +71,7 @@ fn is_recorded(
 
 #[test]
 fn short_write_is_recorded(rt: HostRuntime) -> Result<(), Fail> {
-    let log = LogFile::at(rt, "/tmp/detio_record_short_write");
+    let log = NewLogFile::at(rt, "/tmp/detio_record_short_write");
     let printed = "0 0 1 host_open number 0\n0 1 105 write count 3\n0 2 209 write fail EIO\nend\n";
     for (settings, bytes) in [(WITHOUT_CLOCKS, THREE_RECORDS), (DEFAULTS, WITH_CLOCKS)] {
         assert!(rt; is_recorded(&rt, settings, log, 0, printed)?);

@@ -1,6 +1,6 @@
 use crate::devices::{Device, Text};
 use crate::logs::{THREE_RECORDS, WITH_CLOCKS};
-use crate::told::{Told, log_at, show};
+use crate::told::{Said, log_at, show};
 use commands::{LogMade, LogTo, NewFile, NotCreated, OutFile, make_over};
 use std::alloc::Global;
 use std::io;
@@ -23,7 +23,7 @@ impl NewFile<Vec<u8>> for Place {
 // What `make` told, and what became of its file.
 #[derive(Drop)]
 struct Done {
-    told: Told,
+    told: Said,
     file: OutFile<Place, Vec<u8>>,
 }
 
@@ -37,7 +37,7 @@ fn make(alloc: Global, text: Text<'_>) -> io::Result<Done> {
     let mut errors: Vec<u8> = Vec::new(alloc);
     let text = log_at("a.text", text);
     let LogMade { status, file } = make_over(alloc, text, out, &mut output, &mut errors)?;
-    let told = Told::new(Ok(status), output, errors)?;
+    let told = Said::new(Ok(status), output, errors)?;
     Ok(Done { told, file })
 }
 

@@ -1,7 +1,7 @@
 //! Where a recorded run is said to stand.
 
 use crate::devices::sources;
-use crate::recording::{LogFile, free_path};
+use crate::recording::{NewLogFile, free_path};
 use crate::told::with_turns;
 use commands::{LogTo, RecordOptions, record_over};
 use posix_terms::Settings;
@@ -32,7 +32,7 @@ const PATIENCE: Settings = Settings {
 };
 
 // The status of a run of these scripts that says where it stands in this file, after 300 ms. A call waits for a second.
-fn run(rt: &(impl Threads + Wait + Sync), log: LogFile<'_>, notices: File) -> io::Result<u8> {
+fn run(rt: &(impl Threads + Wait + Sync), log: NewLogFile<'_>, notices: File) -> io::Result<u8> {
     let alloc = log.host.alloc();
     let options = RecordOptions {
         settings: PATIENCE,
@@ -63,7 +63,7 @@ fn a_run_that_stands_still_says_where_once(rt: HostRuntime) -> Result<(), Fail> 
     let log = free_path(rt, "stands")?;
     let said = free_path(rt, "stands_said")?;
     let notices = fs::create(&rt, said.as_str())?;
-    assert!(rt; run(&rt, LogFile::at(rt, log.as_str()), notices)? == 0);
+    assert!(rt; run(&rt, NewLogFile::at(rt, log.as_str()), notices)? == 0);
     assert!(rt; fs::read(&rt, said.as_str())?.as_slice() == STANDS.as_bytes());
     remove_file(&rt, log.as_str())?;
     remove_file(&rt, said.as_str())?;

@@ -3,7 +3,7 @@ ghost use Rattle.recorder.specs.Each.{IsUnused};
 
 use crate::devices::sources;
 use crate::listed::success;
-use crate::recording::{LogFile, free_path, record};
+use crate::recording::{NewLogFile, free_path, record};
 use commands::DEFAULTS;
 use host_doors::{OutcomePlace, PairGate, ScriptDoors};
 use posix_terms::{Bytes, Given, OutKind, Outcome, Outcomes};
@@ -78,7 +78,7 @@ fn readers(alloc: Global, clock: HostRuntime) -> Result<Readers, AllocError>
 }
 
 // Whether `record` tells that both were read.
-fn are_both_read(rt: &(impl Threads + Wait + Sync), log: LogFile<'_>) -> io::Result<bool> {
+fn are_both_read(rt: &(impl Threads + Wait + Sync), log: NewLogFile<'_>) -> io::Result<bool> {
     let alloc = log.host.alloc();
     let sources = sources(alloc, READERS)?;
     let outsides = readers(alloc, log.host)?;
@@ -88,7 +88,7 @@ fn are_both_read(rt: &(impl Threads + Wait + Sync), log: LogFile<'_>) -> io::Res
 #[test]
 fn overlapping_reads(rt: HostRuntime) -> Result<(), Fail> {
     let path = free_path(rt, "overlap")?;
-    assert!(rt; are_both_read(&rt, LogFile::at(rt, path.as_str()))?);
+    assert!(rt; are_both_read(&rt, NewLogFile::at(rt, path.as_str()))?);
     remove_file(&rt, path.as_str())?;
     Ok(())
 }

@@ -3,7 +3,7 @@ ghost use Rattle.commands.specs.declared.record.NotCreated.TheVariants as not_cr
 ghost use Rattle.recorder.specs.Each.{IsUnused};
 
 use crate::devices::{Sources, Text, sources};
-use crate::told::{Told, replay, with_turns};
+use crate::told::{Said, replay, with_turns};
 use commands::{LogTo, NewLog, NotCreated, RecordOptions, Recorded, record_over};
 use host_doors::Outside;
 use input_log::FileSink;
@@ -19,16 +19,16 @@ use std::{io, process};
 
 /// Where the log of a run goes: to a new file at this path, which has so much room.
 #[derive(Clone, Copy, Drop)]
-pub(crate) struct LogFile<'a> {
+pub(crate) struct NewLogFile<'a> {
     pub host: HostRuntime,
     pub path: &'a str,
     pub room: usize,
 }
 
-impl LogFile<'_> {
+impl NewLogFile<'_> {
     /// One with room enough for a short run.
-    pub(crate) fn at(host: HostRuntime, path: &str) -> LogFile<'_> {
-        LogFile {
+    pub(crate) fn at(host: HostRuntime, path: &str) -> NewLogFile<'_> {
+        NewLogFile {
             host,
             path,
             room: 4_096,
@@ -36,7 +36,7 @@ impl LogFile<'_> {
     }
 }
 
-impl NewLog<FileSink> for LogFile<'_> {
+impl NewLog<FileSink> for NewLogFile<'_> {
     ghost refuses = { λ _ reason. reason ≢ not_created.NotALog };
 
     fn create(self) -> Result<FileSink, NotCreated> {
@@ -82,10 +82,10 @@ fn status_of(recorded: io::Result<Recorded<FileSink>>) -> io::Result<u8> {
 pub(crate) fn record<O: Outside + Send + Drop>(
     rt: &(impl Threads + Wait + Sync),
     settings: Settings,
-    log: LogFile<'_>,
+    log: NewLogFile<'_>,
     outsides: Vec<O>,
     scripts: Sources<'_>,
-) -> io::Result<Told>
+) -> io::Result<Said>
     requires one_each { length outsides.items ≡ length scripts.items }
     requires unused { All (IsUnused O.given O.failures) outsides.items }
 {
@@ -105,16 +105,16 @@ pub(crate) fn record<O: Outside + Send + Drop>(
         &mut output,
         &mut errors,
     ));
-    Told::new(status, output, errors)
+    Said::new(status, output, errors)
 }
 
 /// The same over the host's own files and network.
 pub(crate) fn record_by_host(
     rt: &(impl Threads + Wait + Sync),
     settings: Settings,
-    log: LogFile<'_>,
+    log: NewLogFile<'_>,
     scripts: &[&str],
-) -> io::Result<Told> {
+) -> io::Result<Said> {
     let alloc = log.host.alloc();
     let sources = sources(alloc, scripts)?;
     let outsides = hosts(log.host, alloc, scripts.len())?;
@@ -122,7 +122,7 @@ pub(crate) fn record_by_host(
 }
 
 /// What `replay --turns` tells of the log at this path, and of scripts.
-pub(crate) fn replayed(rt: HostRuntime, path: &str, scripts: &[&str]) -> io::Result<Told> {
+pub(crate) fn replayed(rt: HostRuntime, path: &str, scripts: &[&str]) -> io::Result<Said> {
     let sources = sources(rt.alloc(), scripts)?;
     let log = Text::File(fs::open(&rt, path)?);
     replay(rt.alloc(), true, log, sources)
@@ -132,7 +132,7 @@ pub(crate) fn replayed(rt: HostRuntime, path: &str, scripts: &[&str]) -> io::Res
 pub(crate) fn is_replayed(
     rt: &(impl Threads + Wait + Sync),
     settings: Settings,
-    log: LogFile<'_>,
+    log: NewLogFile<'_>,
     scripts: &[&str],
 ) -> io::Result<bool> {
     let told = record_by_host(rt, settings, log, scripts)?;

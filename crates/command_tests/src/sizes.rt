@@ -1,5 +1,5 @@
 use crate::devices::Text;
-use crate::recording::{LogFile, free_path, is_replayed};
+use crate::recording::{NewLogFile, free_path, is_replayed};
 use crate::told::show;
 use commands::DEFAULTS;
 use std::fs::{self, remove_file};
@@ -33,7 +33,7 @@ fn lines_shown(rt: HostRuntime, path: &str) -> io::Result<Option<usize>> {
 #[test]
 fn a_log_has_more_than_four_thousand_records(rt: HostRuntime) -> Result<(), Fail> {
     let path = free_path(rt, "writers")?;
-    let log = LogFile {
+    let log = NewLogFile {
         host: rt,
         path: path.as_str(),
         room: ROOM,

@@ -1,5 +1,7 @@
 use crate::devices::{Sources, Text};
-use commands::{RunOptions, Source, View, plain_over, replay_over, replay_threads_over, show_over};
+use commands::{
+    NoWatch, RunOptions, Source, View, plain_over, replay_over, replay_threads_over, show_over,
+};
 use compare_commands::{CompareOptions, compare_over};
 use posix_terms::Settings;
 use std::alloc::Global;
@@ -9,20 +11,20 @@ use std::thread::Threads;
 
 /// What a command prints on standard output and on standard error, and its exit status.
 #[derive(Drop)]
-pub struct Told {
+pub struct Said {
     pub status: u8,
     pub output: Vec<u8>,
     pub errors: Vec<u8>,
 }
 
-impl Told {
+impl Said {
     /// Of a command that answered this, and wrote this.
     pub(crate) fn new(
         status: io::Result<u8>,
         output: Vec<u8>,
         errors: Vec<u8>,
-    ) -> io::Result<Told> {
-        Ok(Told {
+    ) -> io::Result<Said> {
+        Ok(Said {
             status: status?,
             output,
             errors,
@@ -42,7 +44,7 @@ impl Told {
     }
 
     /// Whether another command told the same.
-    pub(crate) fn is_as(&self, other: &Told) -> bool {
+    pub(crate) fn is_as(&self, other: &Said) -> bool {
         self.status == other.status
             && self.output.as_slice() == other.output.as_slice()
             && self.errors.as_slice() == other.errors.as_slice()
@@ -76,12 +78,21 @@ pub(crate) fn plain(
     settings: Settings,
     turns: bool,
     scripts: Sources<'_>,
-) -> io::Result<Told> {
+) -> io::Result<Said> {
     let mut output: Vec<u8> = Vec::new(alloc);
     let mut errors: Vec<u8> = Vec::new(alloc);
     let options = with_turns(turns);
-    let status = plain_over(alloc, settings, options, scripts, &mut output, &mut errors);
-    Told::new(status, output, errors)
+    let watch = &mut NoWatch;
+    let status = plain_over(
+        alloc,
+        settings,
+        options,
+        scripts,
+        watch,
+        &mut output,
+        &mut errors,
+    );
+    Said::new(status, output, errors)
 }
 
 /// A log at this path.
@@ -95,13 +106,22 @@ pub(crate) fn replay<'a>(
     turns: bool,
     log: Text<'a>,
     scripts: Sources<'a>,
-) -> io::Result<Told> {
+) -> io::Result<Said> {
     let log = log_at("a.log", log);
     let mut output: Vec<u8> = Vec::new(alloc);
     let mut errors: Vec<u8> = Vec::new(alloc);
     let options = with_turns(turns);
-    let status = replay_over(alloc, options, log, scripts, &mut output, &mut errors);
-    Told::new(status, output, errors)
+    let watch = &mut NoWatch;
+    let status = replay_over(
+        alloc,
+        options,
+        log,
+        scripts,
+        watch,
+        &mut output,
+        &mut errors,
+    );
+    Said::new(status, output, errors)
 }
 
 /// What `replay --threads --turns` tells of them.
@@ -110,13 +130,13 @@ pub(crate) fn replay_by_threads<'a>(
     alloc: Global,
     log: Text<'a>,
     scripts: Sources<'a>,
-) -> io::Result<Told> {
+) -> io::Result<Said> {
     let log = log_at("a.log", log);
     let mut output: Vec<u8> = Vec::new(alloc);
     let mut errors: Vec<u8> = Vec::new(alloc);
     let options = with_turns(true);
     let status = replay_threads_over(rt, alloc, options, log, scripts, &mut output, &mut errors);
-    Told::new(status, output, errors)
+    Said::new(status, output, errors)
 }
 
 /// What `compare` tells of two logs, which are "a.log" and "b.log", and of scripts.
@@ -125,7 +145,7 @@ pub(crate) fn compare<'a>(
     log: Text<'a>,
     other: Text<'a>,
     scripts: Sources<'a>,
-) -> io::Result<Told> {
+) -> io::Result<Said> {
     let log = log_at("a.log", log);
     let other = log_at("b.log", other);
     let mut output: Vec<u8> = Vec::new(alloc);
@@ -140,13 +160,13 @@ pub(crate) fn compare<'a>(
         &mut output,
         &mut errors,
     );
-    Told::new(status, output, errors)
+    Said::new(status, output, errors)
 }
 
 /// What `show` tells of a log, which is "a.log".
-pub(crate) fn show(alloc: Global, log: Text<'_>) -> io::Result<Told> {
+pub(crate) fn show(alloc: Global, log: Text<'_>) -> io::Result<Said> {
     let mut output: Vec<u8> = Vec::new(alloc);
     let mut errors: Vec<u8> = Vec::new(alloc);
     let status = show_over(alloc, false, log_at("a.log", log), &mut output, &mut errors);
-    Told::new(status, output, errors)
+    Said::new(status, output, errors)
 }

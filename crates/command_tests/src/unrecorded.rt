@@ -1,4 +1,4 @@
-use crate::recording::{LogFile, file_has, record_by_host};
+use crate::recording::{NewLogFile, file_has, record_by_host};
 use commands::DEFAULTS;
 use posix_terms::Settings;
 use std::fs::{self, remove_file};
@@ -14,7 +14,7 @@ const REFUSED: &[(&[&str], u8, &str)] = &[
 // No fault of the scripts makes a log, or empties one that is there.
 #[test]
 fn faults_leave_the_log_as_it_was(rt: HostRuntime) -> Result<(), Fail> {
-    let log = LogFile::at(rt, "/tmp/detio_record_faults");
+    let log = NewLogFile::at(rt, "/tmp/detio_record_faults");
     fs::write(&rt, log.path, b"as it was")?;
     for (scripts, status, line) in REFUSED {
         assert!(rt; record_by_host(&rt, DEFAULTS, log, scripts)?.is(*status, "", line));
@@ -27,7 +27,7 @@ fn faults_leave_the_log_as_it_was(rt: HostRuntime) -> Result<(), Fail> {
 // Nor do settings that are out of range, or a script that is too long.
 #[test]
 fn later_faults_leave_the_log_as_it_was(rt: HostRuntime) -> Result<(), Fail> {
-    let log = LogFile::at(rt, "/tmp/detio_record_later_faults");
+    let log = NewLogFile::at(rt, "/tmp/detio_record_later_faults");
     fs::write(&rt, log.path, b"as it was")?;
     let long = "\n".repeat(rt.alloc(), 1001)?;
     assert!(rt;

@@ -3,7 +3,7 @@ ghost use Rattle.commands.specs.declared.record.NotCreated.TheVariants as not_cr
 
 use crate::devices::{Device, Sources, Text, numbered, sources};
 use crate::logs::{SHORT_WRITE, THREE_RECORDS, WITH_CLOCKS};
-use crate::told::{Told, log_at};
+use crate::told::{Said, log_at};
 use commands::{LogTo, NewFile, NotCreated, OutFile, Upgraded, upgrade_over};
 use std::alloc::Global;
 use std::io;
@@ -26,7 +26,7 @@ impl NewFile<Vec<u8>> for Place {
 // What `upgrade` told, and whether it asked for no file.
 #[derive(Drop)]
 struct Done {
-    told: Told,
+    told: Said,
     unused: bool,
 }
 
@@ -38,7 +38,7 @@ impl Done {
     ) -> io::Result<Done> {
         let Upgraded { status, file } = upgraded?;
         let unused = matches!(file, OutFile::Unused(_));
-        let told = Told::new(Ok(status), output, errors)?;
+        let told = Said::new(Ok(status), output, errors)?;
         Ok(Done { told, unused })
     }
 }

@@ -1,4 +1,4 @@
-use crate::outcomes::{Came, add, doors};
+use crate::outcomes::{GivenOutcome, add, doors};
 use crate::record::{Over, actors};
 use crate::replay::is_replayed;
 use input_log::MemorySink;
@@ -13,7 +13,7 @@ use std::thread::Threads;
 // Lines of which scripts are made, with what comes for them from outside.
 struct Part {
     lines: &'static str,
-    came: &'static [Came],
+    came: &'static [GivenOutcome],
 }
 
 // Each closes the descriptors that it made, and all share a file and the pipe at 0 and 1.
@@ -44,37 +44,37 @@ const PIECES: &[Part] = &[
     },
     Part {
         lines: "host_open none r\n",
-        came: &[Came::Fail(OutKind::Open, Errno::ENOENT)],
+        came: &[GivenOutcome::Fail(OutKind::Open, Errno::ENOENT)],
     },
     Part {
         lines: "host_open a rw\nset r3 r0\nwrite r3 x010203\nlseek r3 0 set\nread r3 9\nclose r3\n",
         came: &[
-            Came::Ok(OutKind::Open, 0, b""),
-            Came::Ok(OutKind::Write, 2, b""),
-            Came::Ok(OutKind::Seek, 0, b""),
-            Came::Ok(OutKind::Read, 2, b"hi"),
-            Came::Fail(OutKind::Close, Errno::EIO),
+            GivenOutcome::Ok(OutKind::Open, 0, b""),
+            GivenOutcome::Ok(OutKind::Write, 2, b""),
+            GivenOutcome::Ok(OutKind::Seek, 0, b""),
+            GivenOutcome::Ok(OutKind::Read, 2, b"hi"),
+            GivenOutcome::Fail(OutKind::Close, Errno::EIO),
         ],
     },
     // The accept is made three times.
     Part {
         lines: "tcp_listen 0\nset r3 r0\ntcp_accept r3\nset r4 r0\nshutdown r4 write\nclose r4\nclose r3\n",
         came: &[
-            Came::Ok(OutKind::Listen, 4000, b""),
-            Came::Fail(OutKind::Accept, Errno::EAGAIN),
-            Came::Fail(OutKind::Accept, Errno::EAGAIN),
-            Came::Ok(OutKind::Accept, 0, b""),
-            Came::Ok(OutKind::Shutdown, 0, b""),
-            Came::Ok(OutKind::Close, 0, b""),
-            Came::Ok(OutKind::Close, 0, b""),
+            GivenOutcome::Ok(OutKind::Listen, 4000, b""),
+            GivenOutcome::Fail(OutKind::Accept, Errno::EAGAIN),
+            GivenOutcome::Fail(OutKind::Accept, Errno::EAGAIN),
+            GivenOutcome::Ok(OutKind::Accept, 0, b""),
+            GivenOutcome::Ok(OutKind::Shutdown, 0, b""),
+            GivenOutcome::Ok(OutKind::Close, 0, b""),
+            GivenOutcome::Ok(OutKind::Close, 0, b""),
         ],
     },
     Part {
         lines: "tcp_connect 80\nset r3 r0\nsetfl r3 nonblock\nread r3 5\ndup r3\nclose r0\nclose r3\n",
         came: &[
-            Came::Ok(OutKind::Connect, 0, b""),
-            Came::Fail(OutKind::Read, Errno::EAGAIN),
-            Came::Ok(OutKind::Close, 0, b""),
+            GivenOutcome::Ok(OutKind::Connect, 0, b""),
+            GivenOutcome::Fail(OutKind::Read, Errno::EAGAIN),
+            GivenOutcome::Ok(OutKind::Close, 0, b""),
         ],
     },
 ];

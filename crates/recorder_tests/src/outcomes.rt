@@ -6,16 +6,16 @@ use std::alloc::{AllocError, Global};
 
 // An outcome from outside, in short.
 #[derive(Clone, Copy)]
-pub(crate) enum Came {
+pub(crate) enum GivenOutcome {
     Ok(OutKind, u64, &'static [u8]),
     Fail(OutKind, Errno),
     // A success at this clock, with this value.
     At(OutKind, u64, u64),
 }
 
-fn given(alloc: Global, came: Came) -> Result<Given, AllocError> {
+fn given(alloc: Global, came: GivenOutcome) -> Result<Given, AllocError> {
     Ok(match came {
-        Came::Ok(kind, value, data) => Given {
+        GivenOutcome::Ok(kind, value, data) => Given {
             kind,
             clock: None,
             outcome: Outcome::Ok {
@@ -23,12 +23,12 @@ fn given(alloc: Global, came: Came) -> Result<Given, AllocError> {
                 bytes: Bytes::from_slice(alloc, data)?,
             },
         },
-        Came::Fail(kind, error) => Given {
+        GivenOutcome::Fail(kind, error) => Given {
             kind,
             clock: None,
             outcome: Outcome::Fail(error),
         },
-        Came::At(kind, clock, value) => Given {
+        GivenOutcome::At(kind, clock, value) => Given {
             kind,
             clock: Some(clock),
             outcome: Outcome::Ok {
@@ -40,14 +40,18 @@ fn given(alloc: Global, came: Came) -> Result<Given, AllocError> {
 }
 
 // Adds what came to a thread's outcomes.
-pub(crate) fn add(list: &mut Vec<Given>, alloc: Global, came: &[Came]) -> Result<(), AllocError> {
+pub(crate) fn add(
+    list: &mut Vec<Given>,
+    alloc: Global,
+    came: &[GivenOutcome],
+) -> Result<(), AllocError> {
     for one in came {
         list.push(given(alloc, *one)?)?;
     }
     Ok(())
 }
 
-fn outcomes_of(alloc: Global, came: Option<&&[Came]>) -> Result<Outcomes, AllocError> {
+fn outcomes_of(alloc: Global, came: Option<&&[GivenOutcome]>) -> Result<Outcomes, AllocError> {
     let mut list = Vec::new(alloc);
     if let Some(came) = came {
         add(&mut list, alloc, came)?;
@@ -59,7 +63,7 @@ fn outcomes_of(alloc: Global, came: Option<&&[Came]>) -> Result<Outcomes, AllocE
 pub(crate) fn outcomes(
     alloc: Global,
     threads: usize,
-    came: &[&[Came]],
+    came: &[&[GivenOutcome]],
 ) -> Result<Vec<Outcomes>, AllocError> {
     let mut outcomes = Vec::new(alloc);
     for thread in 0..threads {

@@ -1,4 +1,4 @@
-use crate::outcomes::{Came, OfThread, doors, outcomes};
+use crate::outcomes::{GivenOutcome, OfThread, doors, outcomes};
 use host_doors::ScriptDoors;
 use input_log::MemorySink;
 use posix_terms::Settings;
@@ -11,14 +11,14 @@ use thread_scripts::{Script, ScriptActor, parse};
 // Scripts, one for each thread, with what comes for each from outside; how often a call is blocked until it fails; and
 // the version of the log.
 #[derive(Clone, Copy)]
-pub(crate) struct Run<'a> {
+pub(crate) struct GivenRun<'a> {
     pub scripts: &'a [&'a [u8]],
-    pub came: &'a [&'a [Came]],
+    pub came: &'a [&'a [GivenOutcome]],
     pub patience: u32,
     pub version: u16,
 }
 
-impl Run<'_> {
+impl GivenRun<'_> {
     pub(crate) fn settings(self) -> Settings {
         Settings {
             patience: self.patience,
@@ -70,7 +70,7 @@ pub(crate) type NoRun = NotStarted<BoxedActor, ScriptDoors<OfThread>, MemorySink
 pub(crate) fn record<R: Threads + Wait + Sync>(
     rt: &R,
     alloc: Global,
-    run: Run<'_>,
+    run: GivenRun<'_>,
     outsides: usize,
     room: usize,
 ) -> Result<Result<Over, NoRun>, AllocError> {

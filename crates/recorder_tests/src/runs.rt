@@ -1,5 +1,5 @@
-use crate::outcomes::{Came, outcomes};
-use crate::record::{Over, Run, record, scripts};
+use crate::outcomes::{GivenOutcome, outcomes};
+use crate::record::{GivenRun, Over, record, scripts};
 use crate::replay::is_replayed;
 use call_machine::{Plain, plain_run};
 use posix_terms::{Errno, OutKind, PackedRow};
@@ -13,14 +13,14 @@ pub(crate) const SHORT_WRITE: &[u8] =
     b"host_open out w create\nwrite 0 x0001020304050607\nwrite 0 x0304\n";
 
 // What comes for its open, for a short write, and for one that fails.
-pub(crate) const WRITTEN: &[Came] = &[
-    Came::Ok(OutKind::Open, 0, b""),
-    Came::Ok(OutKind::Write, 3, b""),
-    Came::Fail(OutKind::Write, Errno::EIO),
+pub(crate) const WRITTEN: &[GivenOutcome] = &[
+    GivenOutcome::Ok(OutKind::Open, 0, b""),
+    GivenOutcome::Ok(OutKind::Write, 3, b""),
+    GivenOutcome::Fail(OutKind::Write, Errno::EIO),
 ];
 
 // Scripts for one thread, with what comes for it from outside, and the run's patience.
-const ALONE: &[(&[u8], &[Came], u32)] = &[
+const ALONE: &[(&[u8], &[GivenOutcome], u32)] = &[
     // first file
     (
         b"open /a rw create\nwrite 0 x68656c6c6f\nlseek 0 0 set\nread 0 9\nclose 0\n",
@@ -100,7 +100,7 @@ const ALONE: &[(&[u8], &[Came], u32)] = &[
     // missing host file
     (
         b"host_open nofile r\nopen /b rw create\n",
-        &[Came::Fail(OutKind::Open, Errno::ENOENT)],
+        &[GivenOutcome::Fail(OutKind::Open, Errno::ENOENT)],
         1000,
     ),
 ];
@@ -135,7 +135,7 @@ const TOGETHER: &[(&[&[u8]], u32)] = &[
 
 const READER_WAITS: &[&[u8]] = &[b"pipe\nwork 20\nwrite 1 x7a\n", b"work 5\nread 0 1\n"];
 
-pub(crate) fn plain(alloc: Global, run: Run<'_>) -> Result<Plain, AllocError> {
+pub(crate) fn plain(alloc: Global, run: GivenRun<'_>) -> Result<Plain, AllocError> {
     let scripts = scripts(alloc, run.scripts)?;
     let outcomes = outcomes(alloc, run.scripts.len(), run.came)?;
     match plain_run(alloc, scripts, outcomes, run.settings()) {
@@ -163,7 +163,7 @@ fn is_as_plain(plain: &Plain, over: &Over) -> bool {
 fn is_recorded_as<R: Threads + Wait + Sync>(
     rt: &R,
     alloc: Global,
-    run: Run<'_>,
+    run: GivenRun<'_>,
     plain: &Plain,
 ) -> Result<bool, AllocError> {
     match record(rt, alloc, run, run.scripts.len(), 1000)? {
@@ -177,7 +177,7 @@ fn is_recorded_as<R: Threads + Wait + Sync>(
 fn are_as_plain<R: Threads + Wait + Sync>(
     rt: &R,
     alloc: Global,
-    run: Run<'_>,
+    run: GivenRun<'_>,
     times: usize,
     replays: usize,
 ) -> Result<bool, AllocError> {
@@ -206,11 +206,11 @@ fn is_as_plain_alone<R: Threads + Wait + Sync>(
     rt: &R,
     alloc: Global,
     script: &[u8],
-    came: &[Came],
+    came: &[GivenOutcome],
     patience: u32,
     version: u16,
 ) -> Result<bool, AllocError> {
-    let run = Run {
+    let run = GivenRun {
         scripts: &[script],
         came: &[came],
         patience,
@@ -230,8 +230,8 @@ fn one_thread(rt: HostRuntime) -> Result<(), Fail> {
 }
 
 // The run of these scripts, which need nothing from outside.
-fn run_of<'a>(scripts: &'a [&'a [u8]], patience: u32) -> Run<'a> {
-    Run {
+fn run_of<'a>(scripts: &'a [&'a [u8]], patience: u32) -> GivenRun<'a> {
+    GivenRun {
         scripts,
         came: &[],
         patience,

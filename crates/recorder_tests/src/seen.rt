@@ -2,7 +2,7 @@ use posix_terms::{Errno, Reply, Row, Transcripts};
 
 // A reply, in short.
 #[derive(Clone, Copy)]
-pub(crate) enum Seen {
+pub(crate) enum SeenReply {
     Count(u64),
     // data of one byte
     Byte(u8),
@@ -15,32 +15,32 @@ pub(crate) enum Seen {
 }
 
 // What each thread saw: replies with the clocks at which they were granted.
-pub(crate) type Rows = &'static [&'static [(u64, Seen)]];
+pub(crate) type Rows = &'static [&'static [(u64, SeenReply)]];
 
-pub(crate) fn is_reply(reply: &Reply, seen: Seen) -> bool {
+pub(crate) fn is_reply(reply: &Reply, seen: SeenReply) -> bool {
     match (reply, seen) {
-        (Reply::Count(count), Seen::Count(wanted)) => *count == wanted,
-        (Reply::Data(data), Seen::Byte(wanted)) => data.as_slice() == [wanted].as_slice(),
-        (Reply::Data(data), Seen::NoData) => data.as_slice().is_empty(),
-        (Reply::Number(number), Seen::Number(wanted)) => *number == wanted,
-        (Reply::Pair(one, other), Seen::Pair(first, second)) => {
+        (Reply::Count(count), SeenReply::Count(wanted)) => *count == wanted,
+        (Reply::Data(data), SeenReply::Byte(wanted)) => data.as_slice() == [wanted].as_slice(),
+        (Reply::Data(data), SeenReply::NoData) => data.as_slice().is_empty(),
+        (Reply::Number(number), SeenReply::Number(wanted)) => *number == wanted,
+        (Reply::Pair(one, other), SeenReply::Pair(first, second)) => {
             *one == first && *other == second
         }
-        (Reply::Done, Seen::Done) => true,
-        (Reply::Fail(error), Seen::Fail(wanted)) => *error == wanted,
+        (Reply::Done, SeenReply::Done) => true,
+        (Reply::Fail(error), SeenReply::Fail(wanted)) => *error == wanted,
         _ => false,
     }
 }
 
 // Whether the first rows of a thread are these, as far as there are any.
-fn begin(rows: &[Row], wanted: &[(u64, Seen)]) -> bool {
+fn begin(rows: &[Row], wanted: &[(u64, SeenReply)]) -> bool {
     rows.len() <= wanted.len()
         && rows.iter().zip(wanted).all(|(row, (clock, seen))| row.turn.clock == *clock
             && is_reply(&row.reply, *seen))
 }
 
 // Whether the rows of a thread are these.
-pub(crate) fn are_seen(rows: &[Row], wanted: &[(u64, Seen)]) -> bool {
+pub(crate) fn are_seen(rows: &[Row], wanted: &[(u64, SeenReply)]) -> bool {
     rows.len() == wanted.len() && begin(rows, wanted)
 }
 

@@ -1,6 +1,6 @@
 use crate::record::actors;
 use crate::replay::is_replayed;
-use crate::seen::{Seen, is_reply};
+use crate::seen::{SeenReply, is_reply};
 use host_doors::HostDoors;
 use input_log::{MemorySink, decode};
 use posix_terms::{Errno, Outcome, Row, Settings, Transcripts};
@@ -16,10 +16,10 @@ use std::time::Duration;
 
 // How often a call is blocked until it fails, how long it waits at the host each time, in milliseconds, and the
 // last replies that each thread sees.
-struct Wanted {
+struct LastSeen {
     patience: u32,
     wait: u64,
-    last: &'static [&'static [Seen]],
+    last: &'static [&'static [SeenReply]],
 }
 
 type Over = Ended<BoxedActor, HostDoors<HostRuntime>, MemorySink>;
@@ -29,7 +29,7 @@ fn record<R: Threads + Wait + Sync>(
     threads: &R,
     rt: HostRuntime,
     texts: &[&[u8]],
-    wanted: &Wanted,
+    wanted: &LastSeen,
 ) -> Result<Option<Over>, AllocError> {
     let alloc = rt.alloc();
     let actors = actors(alloc, texts)?;
@@ -44,7 +44,7 @@ fn record<R: Threads + Wait + Sync>(
     Ok(record_actors(threads, alloc, actors, outsides, sink, settings).ok())
 }
 
-fn end_so(rows: &[Row], wanted: &[Seen]) -> bool {
+fn end_so(rows: &[Row], wanted: &[SeenReply]) -> bool {
     rows.len() >= wanted.len()
         && rows
             .iter()
@@ -53,7 +53,7 @@ fn end_so(rows: &[Row], wanted: &[Seen]) -> bool {
             .all(|(row, seen)| is_reply(&row.reply, *seen))
 }
 
-fn see_last(transcripts: &Transcripts, wanted: &[&[Seen]]) -> bool {
+fn see_last(transcripts: &Transcripts, wanted: &[&[SeenReply]]) -> bool {
     let threads = transcripts.threads();
     threads.len() == wanted.len()
         && threads
@@ -81,7 +81,7 @@ fn goes<R: Threads + Wait + Sync>(
     threads: &R,
     rt: HostRuntime,
     texts: &[&[u8]],
-    wanted: &Wanted,
+    wanted: &LastSeen,
 ) -> Result<bool, AllocError> {
     let Some(over) = record(threads, rt, texts, wanted)? else {
         return Ok(false);
@@ -101,24 +101,24 @@ const ECHO: &[&[u8]] = &[
     b"tcp_listen 0\ntcp_accept 0\nset r2 r0\nread r2 9\nwrite r2 b0\nread r2 9\nclose r2\nclose 0\n",
 ];
 
-const ECHOED: Wanted = Wanted {
+const ECHOED: LastSeen = LastSeen {
     patience: 1000,
     wait: 10,
     last: &[
         &[
-            Seen::Number(1),
-            Seen::Count(1),
-            Seen::Byte(0x70),
-            Seen::Done,
+            SeenReply::Number(1),
+            SeenReply::Count(1),
+            SeenReply::Byte(0x70),
+            SeenReply::Done,
         ],
         &[
-            Seen::Number(0),
-            Seen::Number(2),
-            Seen::Byte(0x70),
-            Seen::Count(1),
-            Seen::NoData,
-            Seen::Done,
-            Seen::Done,
+            SeenReply::Number(0),
+            SeenReply::Number(2),
+            SeenReply::Byte(0x70),
+            SeenReply::Count(1),
+            SeenReply::NoData,
+            SeenReply::Done,
+            SeenReply::Done,
         ],
     ],
 };
@@ -146,10 +146,10 @@ fn answer_late(rt: HostRuntime, listener: &TcpListener) -> io::Result<()> {
     stream.write_all(b"z")
 }
 
-const ANSWERED: Wanted = Wanted {
+const ANSWERED: LastSeen = LastSeen {
     patience: 1000,
     wait: 10,
-    last: &[&[Seen::Number(0), Seen::Byte(b'z'), Seen::Done]],
+    last: &[&[SeenReply::Number(0), SeenReply::Byte(b'z'), SeenReply::Done]],
 };
 
 fn is_answered<R: Threads + Wait + Sync>(threads: &R, rt: HostRuntime) -> Result<bool, Fail> {
@@ -169,10 +169,14 @@ fn a_peer_that_answers_after_a_second(rt: HostRuntime) -> Result<(), Fail> {
     Ok(())
 }
 
-const GIVEN_UP: Wanted = Wanted {
+const GIVEN_UP: LastSeen = LastSeen {
     patience: 5,
     wait: 10,
-    last: &[&[Seen::Number(0), Seen::Fail(Errno::EINTR), Seen::Done]],
+    last: &[&[
+        SeenReply::Number(0),
+        SeenReply::Fail(Errno::EINTR),
+        SeenReply::Done,
+    ]],
 };
 
 #[test]
@@ -187,13 +191,13 @@ const UNTIL_FULL: &str =
     "setfl 0 nonblock\nopen /a rw create\nftruncate 1 32767\nread 1 32767\nlabel more\nwrite 0 b0\njfail full\njump more\nlabel full\nread 0 9\nclose 0\n";
 
 // With nonblock nothing waits at the host, which would be longer than a test may take.
-const FULL: Wanted = Wanted {
+const FULL: LastSeen = LastSeen {
     patience: 1000,
     wait: 60_000,
     last: &[&[
-        Seen::Fail(Errno::EAGAIN),
-        Seen::Fail(Errno::EAGAIN),
-        Seen::Done,
+        SeenReply::Fail(Errno::EAGAIN),
+        SeenReply::Fail(Errno::EAGAIN),
+        SeenReply::Done,
     ]],
 };
 
@@ -204,10 +208,14 @@ fn a_stream_without_blocking_is_full(rt: HostRuntime) -> Result<(), Fail> {
     Ok(())
 }
 
-const NOBODY: Wanted = Wanted {
+const NOBODY: LastSeen = LastSeen {
     patience: 1000,
     wait: 60_000,
-    last: &[&[Seen::Number(0), Seen::Done, Seen::Fail(Errno::EAGAIN)]],
+    last: &[&[
+        SeenReply::Number(0),
+        SeenReply::Done,
+        SeenReply::Fail(Errno::EAGAIN),
+    ]],
 };
 
 #[test]

@@ -1,8 +1,8 @@
 ghost use Rattle.std.specs.Prelude.{◌≡◌, IfOk, true};
 
-use crate::outcomes::{Came, add};
+use crate::outcomes::{GivenOutcome, add};
 use crate::record::{actors, script};
-use crate::seen::{Rows, Seen, saw};
+use crate::seen::{Rows, SeenReply, saw};
 use host_doors::{Gate, NoGate, ScriptDoors};
 use input_log::MemorySink;
 use machine::Stop;
@@ -39,7 +39,7 @@ impl Gate for Counting {
 // An outside that has these outcomes, and counts its calls.
 fn counted(
     alloc: Global,
-    came: &[Came],
+    came: &[GivenOutcome],
     passed: &Arc<AtomicU64, Global>,
 ) -> Result<ScriptDoors<Counting>, AllocError>
     ensures { IfOk result (λ d. (d.counts.given ≡ 0) × (d.counts.failures ≡ 0)) }
@@ -53,17 +53,17 @@ fn counted(
 // The first has no outcome, and keeps the table until it has one. So the second never has the table.
 const OPENERS: &[&[u8]] = &[b"host_open a r\n", b"work 1\nhost_open b w create trunc\n"];
 
-const OPENED: &[Came] = &[Came::Ok(OutKind::Open, 0, b"")];
+const OPENED: &[GivenOutcome] = &[GivenOutcome::Ok(OutKind::Open, 0, b"")];
 
 type Counted = ScriptDoors<Counting>;
 
-type End = Result<
+type RecordedEnd = Result<
     Ended<BoxedActor, Counted, MemorySink>,
     NotStarted<BoxedActor, Counted, MemorySink>,
 >;
 
 // Whether a run stopped at the first thread's outcome.
-fn lacks_the_first_outcome(end: End) -> bool {
+fn lacks_the_first_outcome(end: RecordedEnd) -> bool {
     match end {
         Ok(over) => over.stop == Some(Stop::EndOfLog(0)),
         Err(_) => false,
@@ -111,7 +111,7 @@ impl Actor for Forgetful {
 
 const WRITER: &[u8] = b"open /a rw create\nwrite 0 x61\nfstat 0\n";
 
-const SAW: Rows = &[&[(1, Seen::Number(0)), (5, Seen::Count(1))]];
+const SAW: Rows = &[&[(1, SeenReply::Number(0)), (5, SeenReply::Count(1))]];
 
 // Whether all that such an actor saw comes back where it has no memory for its third step.
 fn is_handed_back<R: Threads + Wait + Sync>(rt: &R, alloc: Global) -> Result<bool, AllocError> {

@@ -1,5 +1,5 @@
-use crate::outcomes::Came;
-use crate::record::{Run, record};
+use crate::outcomes::GivenOutcome;
+use crate::record::{GivenRun, record};
 use machine::Stop;
 use posix_terms::OutKind;
 use std::alloc::{AllocError, Global};
@@ -10,11 +10,11 @@ use std::thread::Threads;
 // Opens a file of the host, reads a byte of it, goes to its start and closes it.
 const READER: &[u8] = b"host_open /h r\nread 0 1\nlseek 0 0 set\nclose 0\n";
 
-const CAME: &[Came] = &[
-    Came::Ok(OutKind::Open, 0, b""),
-    Came::Ok(OutKind::Read, 1, b"x"),
-    Came::Ok(OutKind::Seek, 0, b""),
-    Came::Ok(OutKind::Close, 0, b""),
+const CAME: &[GivenOutcome] = &[
+    GivenOutcome::Ok(OutKind::Open, 0, b""),
+    GivenOutcome::Ok(OutKind::Read, 1, b"x"),
+    GivenOutcome::Ok(OutKind::Seek, 0, b""),
+    GivenOutcome::Ok(OutKind::Close, 0, b""),
 ];
 
 // Reads a pipe that nobody writes to.
@@ -30,11 +30,11 @@ const SCRIPTS: &[&[u8]] = &[
 fn stops<R: Threads + Wait + Sync>(
     rt: &R,
     alloc: Global,
-    came: &[Came],
+    came: &[GivenOutcome],
     room: usize,
     wanted: Stop,
 ) -> Result<bool, AllocError> {
-    let run = Run {
+    let run = GivenRun {
         scripts: SCRIPTS,
         came: &[came],
         patience: 1000,
@@ -60,27 +60,30 @@ fn outcomes_end(rt: HostRuntime) -> Result<(), Fail> {
 }
 
 // What comes for the first, how much room the log has, and why the run stops.
-const STOPPED: &[(&[Came], usize, Stop)] = &[
+const STOPPED: &[(&[GivenOutcome], usize, Stop)] = &[
     // the second outcome is of another kind, or answers more than was asked
     (
         &[
-            Came::Ok(OutKind::Open, 0, b""),
-            Came::Ok(OutKind::Seek, 0, b""),
+            GivenOutcome::Ok(OutKind::Open, 0, b""),
+            GivenOutcome::Ok(OutKind::Seek, 0, b""),
         ],
         1000,
         Stop::Diverged(0, 1),
     ),
     (
         &[
-            Came::Ok(OutKind::Open, 0, b""),
-            Came::Ok(OutKind::Read, 2, b"xx"),
+            GivenOutcome::Ok(OutKind::Open, 0, b""),
+            GivenOutcome::Ok(OutKind::Read, 2, b"xx"),
         ],
         1000,
         Stop::Diverged(0, 1),
     ),
     // it comes at the clock of the turn before
     (
-        &[Came::At(OutKind::Open, 1, 0), Came::At(OutKind::Read, 1, 0)],
+        &[
+            GivenOutcome::At(OutKind::Open, 1, 0),
+            GivenOutcome::At(OutKind::Read, 1, 0),
+        ],
         1000,
         Stop::Diverged(0, 1),
     ),

@@ -7,7 +7,7 @@ pub(crate) struct Dice {
 }
 
 // The words that letters stand for. There are few for each letter, so that calls hit what other calls made.
-pub(crate) type Operands = &'static [(u8, &'static [&'static str])];
+pub(crate) type OperandWords = &'static [(u8, &'static [&'static str])];
 
 impl Dice {
     pub(crate) fn new(seed: u64) -> Dice {
@@ -34,7 +34,7 @@ impl Dice {
     }
 
     // One of the words that a letter stands for; none for a letter that stands for nothing.
-    fn operand(&mut self, letter: u8, operands: Operands) -> &'static str {
+    fn operand(&mut self, letter: u8, operands: OperandWords) -> &'static str {
         for (name, words) in operands {
             if *name == letter {
                 return self.pick(words);
@@ -49,7 +49,7 @@ impl Dice {
         text: &mut Vec<u8>,
         count: u64,
         lines: &[&'static str],
-        operands: Operands,
+        operands: OperandWords,
     ) -> Result<(), AllocError> {
         for _ in 0..count {
             self.add_line(text, lines, operands)?;
@@ -61,7 +61,7 @@ impl Dice {
         &mut self,
         text: &mut Vec<u8>,
         lines: &[&'static str],
-        operands: Operands,
+        operands: OperandWords,
     ) -> Result<(), AllocError> {
         for letter in self.pick(lines).as_bytes() {
             if letter.is_ascii_uppercase() {

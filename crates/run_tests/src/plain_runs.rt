@@ -41,7 +41,7 @@ impl From<AllocError> for NotRun {
 }
 
 // What comes from outside: a kind, with a value or a failure.
-pub(crate) type Came = (OutKind, Result<u64, Errno>);
+pub(crate) type KindAndValue = (OutKind, Result<u64, Errno>);
 
 fn given(alloc: Global, kind: OutKind, came: Result<u64, Errno>) -> Given {
     let outcome = match came {
@@ -59,7 +59,7 @@ fn given(alloc: Global, kind: OutKind, came: Result<u64, Errno>) -> Given {
 }
 
 // What comes for a thread.
-fn list(alloc: Global, all: &[Came]) -> Result<Outcomes, AllocError> {
+fn list(alloc: Global, all: &[KindAndValue]) -> Result<Outcomes, AllocError> {
     let mut outcomes = Vec::new(alloc);
     for (kind, came) in all {
         outcomes.push(given(alloc, *kind, *came))?;
@@ -68,7 +68,7 @@ fn list(alloc: Global, all: &[Came]) -> Result<Outcomes, AllocError> {
 }
 
 // What comes for each thread.
-fn lists(alloc: Global, all: &[&[Came]]) -> Result<Vec<Outcomes>, PlainFault> {
+fn lists(alloc: Global, all: &[&[KindAndValue]]) -> Result<Vec<Outcomes>, PlainFault> {
     let mut lists = Vec::new(alloc);
     for came in all {
         lists.push(list(alloc, came)?)?;
@@ -97,7 +97,7 @@ pub(crate) fn parsed(alloc: Global, texts: &[Vec<u8>]) -> Result<Vec<Script>, Sc
 pub(crate) fn plain(
     alloc: Global,
     texts: &[&str],
-    came: &[&[Came]],
+    came: &[&[KindAndValue]],
     settings: Settings,
 ) -> Result<Plain, NotRun> {
     let scripts = scripts(alloc, texts)?;

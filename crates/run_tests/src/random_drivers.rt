@@ -73,7 +73,7 @@ impl From<ScriptFault> for Fault {
 // A thread: the script that plays it, the last reply that it heard, what it asked outside with the door that it took
 // along, how many outcomes came for it so far, and how many of its attempts failed.
 #[derive(Drop)]
-struct Player {
+struct DrivenScript {
     seed: u64,
     actor: ScriptActor,
     last: Option<Reply>,
@@ -83,9 +83,9 @@ struct Player {
     failed: usize,
 }
 
-impl Player {
-    fn new(seed: u64, script: Script) -> Player {
-        Player {
+impl DrivenScript {
+    fn new(seed: u64, script: Script) -> DrivenScript {
+        DrivenScript {
             seed,
             actor: ScriptActor::new(script),
             last: None,
@@ -254,18 +254,22 @@ fn record(
 
 // ## A run
 
-fn players(alloc: Global, texts: &[Vec<u8>], dice: &mut Dice) -> Result<Vec<Player>, ScriptFault> {
+fn players(
+    alloc: Global,
+    texts: &[Vec<u8>],
+    dice: &mut Dice,
+) -> Result<Vec<DrivenScript>, ScriptFault> {
     let mut players = Vec::new(alloc);
     for text in texts {
         let script = parse(alloc, text.as_slice())?;
-        players.push(Player::new(dice.roll(), script))?;
+        players.push(DrivenScript::new(dice.roll(), script))?;
     }
     Ok(players)
 }
 
 // How the thread is chosen that goes on.
 #[derive(Clone, Copy)]
-enum Choice {
+enum ThreadChoice {
     Any,
     // the lesser of two, so that the last threads are slow
     Lesser,
@@ -275,32 +279,32 @@ enum Choice {
     Same,
 }
 
-fn chosen(dice: &mut Dice, choice: Choice, threads: usize, before: usize) -> usize {
+fn chosen(dice: &mut Dice, choice: ThreadChoice, threads: usize, before: usize) -> usize {
     let one = dice.below(threads as u64) as usize;
     let other = dice.below(threads as u64) as usize;
     match choice {
-        Choice::Any => one,
-        Choice::Lesser => one.min(other),
-        Choice::Greater => one.max(other),
-        Choice::Same if dice.below(8) == 0 => one,
-        Choice::Same => before,
+        ThreadChoice::Any => one,
+        ThreadChoice::Lesser => one.min(other),
+        ThreadChoice::Greater => one.max(other),
+        ThreadChoice::Same if dice.below(8) == 0 => one,
+        ThreadChoice::Same => before,
     }
 }
 
 // The scripts of a run, the threads that they play, and the machine that is driven.
 #[derive(Drop)]
-struct Run {
+struct DrivenRun {
     texts: Vec<Vec<u8>>,
-    players: Vec<Player>,
+    players: Vec<DrivenScript>,
     machine: Driven,
 }
 
-impl Run {
-    fn new(alloc: Global, dice: &mut Dice) -> Result<Run, Fault> {
+impl DrivenRun {
+    fn new(alloc: Global, dice: &mut Dice) -> Result<DrivenRun, Fault> {
         let texts = script_texts(alloc, dice)?;
         let players = players(alloc, texts.as_slice(), dice)?;
         let machine = machine(alloc, texts.len(), SETTINGS, ROOM)?;
-        Ok(Run {
+        Ok(DrivenRun {
             texts,
             players,
             machine,
@@ -331,7 +335,7 @@ impl Run {
     }
 
     // Makes events, each of a thread by chance, until no thread can make any.
-    fn drive(&mut self, alloc: Global, choice: Choice, dice: &mut Dice) -> Result<(), Fault> {
+    fn drive(&mut self, alloc: Global, choice: ThreadChoice, dice: &mut Dice) -> Result<(), Fault> {
         let mut thread = 0;
         for _ in 0..MOST_EVENTS {
             thread = chosen(dice, choice, self.players.len(), thread);
@@ -345,7 +349,7 @@ impl Run {
     // Whether all threads ended, and the replay of the machine's log has the same rows.
     fn is_replayed(self, alloc: Global) -> Result<bool, Fault> {
         let are_ended = self.machine.turn_holder().is_none();
-        let Run { texts, machine, .. } = self;
+        let DrivenRun { texts, machine, .. } = self;
         let is_replayed = is_replayed(alloc, texts.as_slice(), &machine.finish())?;
         Ok(are_ended && is_replayed)
     }
@@ -393,12 +397,12 @@ fn was_blocked(rows: &[PackedRow]) -> bool {
     rows.iter().any(|row| row.is_answered() && !row.has_reply())
 }
 
-fn contended(players: &[Player]) -> bool {
+fn contended(players: &[DrivenScript]) -> bool {
     players.iter().any(|player| player.failed > 0)
 }
 
 impl Met {
-    fn count(&mut self, rows: &[PackedRow], players: &[Player]) {
+    fn count(&mut self, rows: &[PackedRow], players: &[DrivenScript]) {
         self.outside = self.outside.saturating_add(usize::from(went_outside(rows)));
         self.blocked = self.blocked.saturating_add(usize::from(was_blocked(rows)));
         self.contended = self
@@ -409,9 +413,14 @@ impl Met {
 
 // Whether the log of the run of this seed is replayed to the same rows: calls, turns, outcomes and
 // replies. That they are those of the plain run is proved of each machine (`faithful`).
-fn is_same_again(alloc: Global, choice: Choice, seed: u64, met: &mut Met) -> Result<bool, Fault> {
+fn is_same_again(
+    alloc: Global,
+    choice: ThreadChoice,
+    seed: u64,
+    met: &mut Met,
+) -> Result<bool, Fault> {
     let mut dice = Dice::new(seed);
-    let mut run = Run::new(alloc, &mut dice)?;
+    let mut run = DrivenRun::new(alloc, &mut dice)?;
     run.drive(alloc, choice, &mut dice)?;
     met.count(run.machine.history(), run.players.as_slice());
     run.is_replayed(alloc)
@@ -421,7 +430,7 @@ fn is_same_again(alloc: Global, choice: Choice, seed: u64, met: &mut Met) -> Res
 fn are_same_again(
     rt: &(impl Abort + Eprint),
     alloc: Global,
-    choice: Choice,
+    choice: ThreadChoice,
     first: u64,
 ) -> Result<(), Fail> {
     let mut met = Met {
@@ -450,20 +459,20 @@ fn are_same_again(
 
 #[test]
 fn any_thread_goes_on(rt: HostRuntime) -> Result<(), Fail> {
-    are_same_again(&rt, rt.alloc(), Choice::Any, 0)
+    are_same_again(&rt, rt.alloc(), ThreadChoice::Any, 0)
 }
 
 #[test]
 fn mostly_a_lesser_thread_goes_on(rt: HostRuntime) -> Result<(), Fail> {
-    are_same_again(&rt, rt.alloc(), Choice::Lesser, 1000)
+    are_same_again(&rt, rt.alloc(), ThreadChoice::Lesser, 1000)
 }
 
 #[test]
 fn mostly_a_greater_thread_goes_on(rt: HostRuntime) -> Result<(), Fail> {
-    are_same_again(&rt, rt.alloc(), Choice::Greater, 2000)
+    are_same_again(&rt, rt.alloc(), ThreadChoice::Greater, 2000)
 }
 
 #[test]
 fn mostly_the_same_thread_goes_on(rt: HostRuntime) -> Result<(), Fail> {
-    are_same_again(&rt, rt.alloc(), Choice::Same, 3000)
+    are_same_again(&rt, rt.alloc(), ThreadChoice::Same, 3000)
 }

@@ -1,4 +1,4 @@
-use crate::dice::{Dice, Operands};
+use crate::dice::{Dice, OperandWords};
 use posix_terms::{Bytes, Errno, OutKind, Outcome, Request};
 use std::alloc::{AllocError, Global};
 
@@ -62,7 +62,7 @@ const LINES: &[&str] = &[
     "tcp_accept F",
 ];
 
-const OPERANDS: Operands = &[
+const OPERANDS: OperandWords = &[
     (b'P', &["/a", "/a", "/b", "/d", "/d/x"]),
     (
         b'A',

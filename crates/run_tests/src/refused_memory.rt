@@ -1,5 +1,5 @@
 use crate::driven::{CREATE, Driven, SETTINGS, machine, open, write};
-use crate::seen::{Seen, replied, was_blocked};
+use crate::seen::{RowReply, replied, was_blocked};
 use call_machine::Refused;
 use lock_machine::Phase;
 use posix_terms::{Access, Call, PackedRow, Step};
@@ -116,12 +116,12 @@ fn were_blocked(rows: &[PackedRow]) -> bool {
 fn is_whole(rows: &[PackedRow]) -> bool {
     match rows {
         [pipe, blocked @ .., write, read, open] => {
-            replied(pipe, 0, 1, Seen::Pair(0, 1))
+            replied(pipe, 0, 1, RowReply::Pair(0, 1))
                 && blocked.len() == 5
                 && were_blocked(blocked)
-                && replied(write, 0, 25, Seen::Count(1))
-                && replied(read, 1, 28, Seen::Data(b"z"))
-                && replied(open, 1, 32, Seen::Number(2))
+                && replied(write, 0, 25, RowReply::Count(1))
+                && replied(read, 1, 28, RowReply::Data(b"z"))
+                && replied(open, 1, 32, RowReply::Number(2))
         }
         _ => false,
     }

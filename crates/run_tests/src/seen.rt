@@ -2,7 +2,7 @@ use posix_terms::{Errno, PackedRow, Reply, Turn};
 
 // A reply, in short.
 #[derive(Clone, Copy)]
-pub(crate) enum Seen {
+pub(crate) enum RowReply {
     Count(u64),
     Data(&'static [u8]),
     Number(i64),
@@ -12,14 +12,14 @@ pub(crate) enum Seen {
 }
 
 // Whether a row was answered with this reply.
-fn has_reply(row: &PackedRow, seen: Seen) -> bool {
+fn has_reply(row: &PackedRow, seen: RowReply) -> bool {
     match seen {
-        Seen::Count(count) => row.is_reply(&Reply::Count(count)),
-        Seen::Data(bytes) => row.bytes() == Some(bytes),
-        Seen::Number(number) => row.is_reply(&Reply::Number(number)),
-        Seen::Pair(first, second) => row.is_reply(&Reply::Pair(first, second)),
-        Seen::Done => row.is_reply(&Reply::Done),
-        Seen::Fail(error) => row.is_reply(&Reply::Fail(error)),
+        RowReply::Count(count) => row.is_reply(&Reply::Count(count)),
+        RowReply::Data(bytes) => row.bytes() == Some(bytes),
+        RowReply::Number(number) => row.is_reply(&Reply::Number(number)),
+        RowReply::Pair(first, second) => row.is_reply(&Reply::Pair(first, second)),
+        RowReply::Done => row.is_reply(&Reply::Done),
+        RowReply::Fail(error) => row.is_reply(&Reply::Fail(error)),
     }
 }
 
@@ -29,7 +29,7 @@ fn granted(row: &PackedRow, thread: usize, clock: u64) -> bool {
 }
 
 // Whether it also has this reply.
-pub(crate) fn replied(row: &PackedRow, thread: usize, clock: u64, seen: Seen) -> bool {
+pub(crate) fn replied(row: &PackedRow, thread: usize, clock: u64, seen: RowReply) -> bool {
     granted(row, thread, clock) && has_reply(row, seen)
 }
 

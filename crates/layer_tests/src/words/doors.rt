@@ -28,19 +28,19 @@ pub(crate) fn plain(kind: OutKind, asked: u64) -> Request {
 
 /// What comes of a request.
 #[derive(Clone, Copy)]
-pub enum Came {
+pub enum WantedOutcome {
     /// A success with this value and these bytes.
     Success(u64, &'static [u8]),
     Failure(Errno),
 }
 
 /// Whether what came is this.
-pub(crate) fn is_so(came: &Result<Outcome, DoorStop>, wanted: &Came) -> bool {
+pub(crate) fn is_so(came: &Result<Outcome, DoorStop>, wanted: &WantedOutcome) -> bool {
     match (came, wanted) {
-        (Ok(Outcome::Ok { value, bytes }), Came::Success(count, data)) => {
+        (Ok(Outcome::Ok { value, bytes }), WantedOutcome::Success(count, data)) => {
             value == count && bytes.as_slice() == *data
         }
-        (Ok(Outcome::Fail(found)), Came::Failure(error)) => found == error,
+        (Ok(Outcome::Fail(found)), WantedOutcome::Failure(error)) => found == error,
         _ => false,
     }
 }

@@ -1,6 +1,6 @@
 ghost use Rattle.std.specs.Prelude.{◌≡◌, ◌<◌, IfOk};
 
-use crate::words::doors::{Came, is_so, plain, success};
+use crate::words::doors::{WantedOutcome, is_so, plain, success};
 use host_doors::{DoorStop, OutcomePlace, Outside, PairGate, ScriptDoor, ScriptDoors};
 use posix_terms::{Errno, Given, OutKind, Outcome, Outcomes};
 use std::alloc::{AllocError, Global};
@@ -89,7 +89,7 @@ fn meets(
     place: OutcomePlace,
     delay: u64,
     come: &Arrivals,
-    wanted: &Came,
+    wanted: &WantedOutcome,
 ) -> bool
     requires room { doors.counts.given < 1000 }
     requires few { doors.counts.failures < 1000 }
@@ -100,9 +100,9 @@ fn meets(
     is_so(&came, wanted) && come.load(Ordering::SeqCst) == 2
 }
 
-const A: Came = Came::Success(1, b"A");
+const A: WantedOutcome = WantedOutcome::Success(1, b"A");
 
-const B: Came = Came::Success(1, b"B");
+const B: WantedOutcome = WantedOutcome::Success(1, b"B");
 
 /// Whether two threads meet where each comes after so many milliseconds.
 fn meet_after(
@@ -169,7 +169,7 @@ fn alone(alloc: Global) -> Result<(Result<Outcome, DoorStop>, u64), Fail> {
     Ok((came, sleeps.load(Ordering::SeqCst)))
 }
 
-const LATE: Came = Came::Failure(Errno::ETIMEDOUT);
+const LATE: WantedOutcome = WantedOutcome::Failure(Errno::ETIMEDOUT);
 
 #[test]
 fn a_call_that_nobody_meets_times_out(rt: HostRuntime) -> Result<(), Fail> {

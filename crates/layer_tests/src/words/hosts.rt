@@ -1,6 +1,6 @@
 ghost use Rattle.std.specs.Prelude.{◌≡◌};
 
-use crate::words::doors::{Came, FIRST_TURN, is_so, plain};
+use crate::words::doors::{FIRST_TURN, WantedOutcome, is_so, plain};
 use host_doors::{DoorStop, HostDoor, HostDoors, Opened, Outside};
 use posix_terms::{
     Access, Call, Errno, OpenFlags, OutKind, Outcome, Request, SharedBytes, ShutdownHow, Whence,
@@ -95,12 +95,12 @@ fn came(rt: HostRuntime, way: Way, ask: Ask, door: &mut HostDoor) -> Result<Outc
 }
 
 /// Whether this comes of what is asked, without a bound.
-fn answers(rt: HostRuntime, door: &mut HostDoor, ask: Ask, wanted: Came) -> bool {
+fn answers(rt: HostRuntime, door: &mut HostDoor, ask: Ask, wanted: WantedOutcome) -> bool {
     is_so(&came(rt, UNBOUNDED, ask, door), &wanted)
 }
 
 /// Whether this comes of what is asked, one after another.
-fn all_answer(rt: HostRuntime, door: &mut HostDoor, asks: &[(Ask, Came)]) -> bool {
+fn all_answer(rt: HostRuntime, door: &mut HostDoor, asks: &[(Ask, WantedOutcome)]) -> bool {
     for (ask, wanted) in asks {
         if !answers(rt, door, *ask, *wanted) {
             return false;
@@ -112,7 +112,7 @@ fn all_answer(rt: HostRuntime, door: &mut HostDoor, asks: &[(Ask, Came)]) -> boo
 /// Whether a door is closed.
 fn closes(rt: HostRuntime, door: HostDoor) -> bool {
     let came = host(rt, UNBOUNDED).close(0, 0, &plain(OutKind::Close, 0), door);
-    is_so(&came, &Came::Success(0, b""))
+    is_so(&came, &WantedOutcome::Success(0, b""))
 }
 
 /// What comes of a request for a new door.
@@ -178,7 +178,7 @@ fn file_answers(
     rt: HostRuntime,
     path: &str,
     access: Access,
-    asks: &[(Ask, Came)],
+    asks: &[(Ask, WantedOutcome)],
 ) -> Result<bool, AllocError> {
     let Some(mut file) = file_door(rt, path, access)? else {
         return Ok(false);
@@ -187,14 +187,14 @@ fn file_answers(
     Ok(closes(rt, file) && all)
 }
 
-const UNREAD: &[(Ask, Came)] = &[
-    (Ask::Write(b"x"), Came::Success(1, b"")),
-    (Ask::Read(1), Came::Failure(Errno::EIO)),
+const UNREAD: &[(Ask, WantedOutcome)] = &[
+    (Ask::Write(b"x"), WantedOutcome::Success(1, b"")),
+    (Ask::Read(1), WantedOutcome::Failure(Errno::EIO)),
 ];
 
-const UNWRITTEN: &[(Ask, Came)] = &[
-    (Ask::Read(9), Came::Success(1, b"x")),
-    (Ask::Write(b"y"), Came::Failure(Errno::EIO)),
+const UNWRITTEN: &[(Ask, WantedOutcome)] = &[
+    (Ask::Read(9), WantedOutcome::Success(1, b"x")),
+    (Ask::Write(b"y"), WantedOutcome::Failure(Errno::EIO)),
 ];
 
 // The file is missing at first, and then it is there. The path is one that no other process takes.
@@ -289,8 +289,8 @@ fn connected(rt: HostRuntime) -> Result<(HostDoor, HostDoor), Fail> {
 
 /// What is asked at one end of a stream, and what comes of it.
 enum Talk {
-    Near(Ask, Came),
-    Far(Ask, Came),
+    Near(Ask, WantedOutcome),
+    Far(Ask, WantedOutcome),
 }
 
 fn says(rt: HostRuntime, near: &mut HostDoor, far: &mut HostDoor, talk: &Talk) -> bool {
@@ -311,7 +311,7 @@ fn all_say(rt: HostRuntime, near: &mut HostDoor, far: &mut HostDoor, talk: &[Tal
 }
 
 /// Whether this is said at a new stream, and at its near end the rest once the far end is closed.
-fn is_said(rt: HostRuntime, talk: &[Talk], rest: &[(Ask, Came)]) -> Result<bool, Fail> {
+fn is_said(rt: HostRuntime, talk: &[Talk], rest: &[(Ask, WantedOutcome)]) -> Result<bool, Fail> {
     let (mut near, mut far) = connected(rt)?;
     let said = all_say(rt, &mut near, &mut far, talk);
     let closed = closes(rt, far);
@@ -319,33 +319,36 @@ fn is_said(rt: HostRuntime, talk: &[Talk], rest: &[(Ask, Came)]) -> Result<bool,
 }
 
 const BOTH_WAYS: &[Talk] = &[
-    Talk::Far(Ask::Write(b"ping"), Came::Success(4, b"")),
-    Talk::Near(Ask::Read(10), Came::Success(4, b"ping")),
-    Talk::Near(Ask::Write(b"pong"), Came::Success(4, b"")),
-    Talk::Far(Ask::Read(2), Came::Success(2, b"po")),
-    Talk::Far(Ask::Read(9), Came::Success(2, b"ng")),
+    Talk::Far(Ask::Write(b"ping"), WantedOutcome::Success(4, b"")),
+    Talk::Near(Ask::Read(10), WantedOutcome::Success(4, b"ping")),
+    Talk::Near(Ask::Write(b"pong"), WantedOutcome::Success(4, b"")),
+    Talk::Far(Ask::Read(2), WantedOutcome::Success(2, b"po")),
+    Talk::Far(Ask::Read(9), WantedOutcome::Success(2, b"ng")),
 ];
 
 const ONE_WAY: &[Talk] = &[
-    Talk::Near(Ask::Shut(ShutdownHow::Write), Came::Success(0, b"")),
-    Talk::Far(Ask::Read(10), Came::Success(0, b"")),
-    Talk::Near(Ask::Write(b"x"), Came::Failure(Errno::EPIPE)),
-    Talk::Far(Ask::Write(b"hi"), Came::Success(2, b"")),
-    Talk::Near(Ask::Read(9), Came::Success(2, b"hi")),
+    Talk::Near(
+        Ask::Shut(ShutdownHow::Write),
+        WantedOutcome::Success(0, b""),
+    ),
+    Talk::Far(Ask::Read(10), WantedOutcome::Success(0, b"")),
+    Talk::Near(Ask::Write(b"x"), WantedOutcome::Failure(Errno::EPIPE)),
+    Talk::Far(Ask::Write(b"hi"), WantedOutcome::Success(2, b"")),
+    Talk::Near(Ask::Read(9), WantedOutcome::Success(2, b"hi")),
 ];
 
 // A peer that goes away with bytes that it has not read resets the connection.
-const UNHEARD: &[Talk] = &[Talk::Near(Ask::Write(b"x"), Came::Success(1, b""))];
+const UNHEARD: &[Talk] = &[Talk::Near(Ask::Write(b"x"), WantedOutcome::Success(1, b""))];
 
-const RESET: &[(Ask, Came)] = &[
-    (Ask::Read(1), Came::Failure(Errno::ECONNRESET)),
-    (Ask::Write(b"y"), Came::Failure(Errno::EPIPE)),
+const RESET: &[(Ask, WantedOutcome)] = &[
+    (Ask::Read(1), WantedOutcome::Failure(Errno::ECONNRESET)),
+    (Ask::Write(b"y"), WantedOutcome::Failure(Errno::EPIPE)),
 ];
 
-const ENDED: &[(Ask, Came)] = &[(Ask::Read(9), Came::Success(0, b""))];
+const ENDED: &[(Ask, WantedOutcome)] = &[(Ask::Read(9), WantedOutcome::Success(0, b""))];
 
 /// What is said at streams, and at their near ends once the far ends are closed.
-const SAID: &[(&[Talk], &[(Ask, Came)])] = &[
+const SAID: &[(&[Talk], &[(Ask, WantedOutcome)])] = &[
     (BOTH_WAYS, ENDED),
     (ONE_WAY, ENDED),
     (UNHEARD, RESET),
@@ -362,7 +365,12 @@ fn streams_over_loopback(rt: HostRuntime) -> Result<(), Fail> {
 const PAGE: &[u8] = &[7; 4_096];
 
 /// Whether the writes to a stream, whole or in part, come to this failure or the other, before there are too many.
-fn write_until_failure(rt: HostRuntime, mut door: HostDoor, wanted: Came, other: Came) -> bool {
+fn write_until_failure(
+    rt: HostRuntime,
+    mut door: HostDoor,
+    wanted: WantedOutcome,
+    other: WantedOutcome,
+) -> bool {
     for _ in 0..10_000 {
         let found = came(rt, UNBOUNDED, Ask::Write(PAGE), &mut door);
         if is_so(&found, &wanted) || is_so(&found, &other) {
@@ -380,10 +388,10 @@ fn close_late(rt: HostRuntime, door: HostDoor) -> bool {
 /// Whether the writes to a stream fail where its peer, which reads nothing, goes away while they wait.
 fn is_cut_off(threads: &impl Threads, rt: HostRuntime) -> Result<bool, Fail> {
     let (near, far) = connected(rt)?;
-    let reset = Came::Failure(Errno::ECONNRESET);
+    let reset = WantedOutcome::Failure(Errno::ECONNRESET);
     let (failed, closed) = join(
         threads,
-        move || write_until_failure(rt, near, reset, Came::Failure(Errno::EPIPE)),
+        move || write_until_failure(rt, near, reset, WantedOutcome::Failure(Errno::EPIPE)),
         move || close_late(rt, far),
     );
     Ok(failed && closed)
@@ -430,7 +438,7 @@ fn is_over(rt: HostRuntime, begun: Instant, least: u64) -> bool {
     }
 }
 
-const AGAIN: Came = Came::Failure(Errno::EAGAIN);
+const AGAIN: WantedOutcome = WantedOutcome::Failure(Errno::EAGAIN);
 
 /// Whether a read finds nothing, and only once it took as long as that.
 fn finds_no_bytes(rt: HostRuntime, way: Way, least: u64, door: &mut HostDoor) -> bool {
@@ -469,7 +477,7 @@ fn finds_bytes(rt: HostRuntime, way: Way, door: &mut HostDoor) -> bool {
     for _ in 0..1_000 {
         let found = came(rt, way, Ask::Read(9), door);
         if !is_so(&found, &AGAIN) {
-            return is_so(&found, &Came::Success(4, b"late"));
+            return is_so(&found, &WantedOutcome::Success(4, b"late"));
         }
         sleep(&rt, Duration::from_millis(1));
     }
@@ -487,7 +495,7 @@ fn ends_are_bounded(
     finds_no_bytes(rt, way, least, near)
         && finds_no_bytes(rt, way, least, far)
         && finds_it_full(rt, way, least, near)
-        && answers(rt, far, Ask::Write(b"late"), Came::Success(4, b""))
+        && answers(rt, far, Ask::Write(b"late"), WantedOutcome::Success(4, b""))
         && finds_bytes(rt, way, near)
 }
 
@@ -548,11 +556,17 @@ fn an_accept_waits_for_a_connection(rt: HostRuntime) -> Result<(), Fail> {
     Ok(())
 }
 
-const NO_STREAM: &[(Ask, Came)] = &[
-    (Ask::Read(1), Came::Failure(Errno::EINVAL)),
-    (Ask::Write(b"x"), Came::Failure(Errno::EINVAL)),
-    (Ask::Seek(0, Whence::Set), Came::Failure(Errno::EINVAL)),
-    (Ask::Shut(ShutdownHow::Both), Came::Failure(Errno::EINVAL)),
+const NO_STREAM: &[(Ask, WantedOutcome)] = &[
+    (Ask::Read(1), WantedOutcome::Failure(Errno::EINVAL)),
+    (Ask::Write(b"x"), WantedOutcome::Failure(Errno::EINVAL)),
+    (
+        Ask::Seek(0, Whence::Set),
+        WantedOutcome::Failure(Errno::EINVAL),
+    ),
+    (
+        Ask::Shut(ShutdownHow::Both),
+        WantedOutcome::Failure(Errno::EINVAL),
+    ),
 ];
 
 /// Whether a listener refuses what no listener does, and others its port as long as it is there.

@@ -1,6 +1,6 @@
-use crate::hostile::runs::{SHORT_HOST_WRITE, SHORT_LOG, SHORT_ROWS, SHORT_SEEN, Wanted};
-use crate::hostile::ways::{Told, recorded, recorded_short};
-use crate::seen::{Rows, Seen};
+use crate::hostile::runs::{SHORT_HOST_WRITE, SHORT_LOG, SHORT_ROWS, SHORT_SEEN, WantedEnd};
+use crate::hostile::ways::{Outturn, recorded, recorded_short};
+use crate::seen::{Rows, SeenReply};
 use machine::Stop;
 use std::alloc::{AllocError, Global};
 use std::sync::Wait;
@@ -9,9 +9,9 @@ use std::thread::Threads;
 
 const NOTHING: Rows = &[&[]];
 
-const ONE: Rows = &[&[(1, Seen::Number(0))]];
+const ONE: Rows = &[&[(1, SeenReply::Number(0))]];
 
-const TWO: Rows = &[&[(1, Seen::Number(0)), (105, Seen::Count(3))]];
+const TWO: Rows = &[&[(1, SeenReply::Number(0)), (105, SeenReply::Count(3))]];
 
 // So many of the first bytes of the log.
 fn front(length: usize) -> &'static [u8] {
@@ -23,14 +23,14 @@ fn front(length: usize) -> &'static [u8] {
 
 // What is wanted of the short host write where the log takes so many bytes and no more: what each
 // call answered has its record in it.
-fn filled(taken: usize) -> Wanted {
+fn filled(taken: usize) -> WantedEnd {
     let rows = match taken {
         0..35 => NOTHING,
         35..54 => ONE,
         54..73 => TWO,
         _ => SHORT_ROWS,
     };
-    Wanted {
+    WantedEnd {
         end: if taken < 78 { Some(Stop::Sink) } else { None },
         rows,
         log: front(taken),
@@ -47,7 +47,7 @@ fn fills<R: Threads + Wait + Sync>(
     let wanted = filled(taken);
     let room = recorded(rt, alloc, SHORT_HOST_WRITE, taken, wanted)?;
     let write = recorded_short(rt, alloc, SHORT_HOST_WRITE, 1, Some(taken as u64), wanted)?;
-    Ok(room == Told::Whole && write == Told::Whole)
+    Ok(room == Outturn::Whole && write == Outturn::Whole)
 }
 
 // What the sink then has is the log of `examples/short-host-write-replayed`, cut at each length.
@@ -64,13 +64,13 @@ fn a_log_has_every_room_and_fails_at_each_write(rt: HostRuntime) -> Result<(), F
 #[test]
 fn a_sink_takes_little_at_a_time(rt: HostRuntime) -> Result<(), Fail> {
     let all = recorded_short(&rt, rt.alloc(), SHORT_HOST_WRITE, 1, None, SHORT_SEEN)?;
-    assert!(rt; all == Told::Whole);
-    let wanted = Wanted {
+    assert!(rt; all == Outturn::Whole);
+    let wanted = WantedEnd {
         end: Some(Stop::Sink),
         rows: NOTHING,
         log: front(21),
     };
     let part = recorded_short(&rt, rt.alloc(), SHORT_HOST_WRITE, 5, Some(5), wanted)?;
-    assert!(rt; part == Told::Whole);
+    assert!(rt; part == Outturn::Whole);
     Ok(())
 }

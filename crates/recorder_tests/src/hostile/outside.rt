@@ -1,21 +1,21 @@
-use crate::hostile::runs::{Run, SHORT_HOST_WRITE, Wanted};
+use crate::hostile::runs::{GivenRun, SHORT_HOST_WRITE, WantedEnd};
 use crate::hostile::ways::is_run;
-use crate::outcomes::Came;
-use crate::seen::Seen;
+use crate::outcomes::GivenOutcome;
+use crate::seen::SeenReply;
 use machine::Stop;
 use posix_terms::{Errno, OutKind};
 use std::test::Fail;
 
 // The short host write with a patience, and what comes for it; and what is wanted of the run. Replays
 // of its logs are in `examples/` (`write-*-replayed` and `write-*-by-threads`).
-struct Case {
+struct OutsideCase {
     patience: u32,
-    came: &'static [&'static [Came]],
-    seen: Wanted,
+    came: &'static [&'static [GivenOutcome]],
+    seen: WantedEnd,
 }
 
-fn run_of(case: &Case) -> Run {
-    Run {
+fn run_of(case: &OutsideCase) -> GivenRun {
+    GivenRun {
         scripts: SHORT_HOST_WRITE.scripts,
         came: case.came,
         patience: case.patience,
@@ -23,21 +23,21 @@ fn run_of(case: &Case) -> Run {
     }
 }
 
-const CASES: &[Case] = &[
+const CASES: &[OutsideCase] = &[
     // The second call is interrupted.
-    Case {
+    OutsideCase {
         patience: 1000,
         came: &[&[
-            Came::Ok(OutKind::Open, 0, b""),
-            Came::Fail(OutKind::Write, Errno::EINTR),
-            Came::Fail(OutKind::Write, Errno::EIO),
+            GivenOutcome::Ok(OutKind::Open, 0, b""),
+            GivenOutcome::Fail(OutKind::Write, Errno::EINTR),
+            GivenOutcome::Fail(OutKind::Write, Errno::EIO),
         ]],
-        seen: Wanted {
+        seen: WantedEnd {
             end: None,
             rows: &[&[
-                (1, Seen::Number(0)),
-                (105, Seen::Fail(Errno::EINTR)),
-                (209, Seen::Fail(Errno::EIO)),
+                (1, SeenReply::Number(0)),
+                (105, SeenReply::Fail(Errno::EINTR)),
+                (209, SeenReply::Fail(Errno::EIO)),
             ]],
             log: b"DIOL\0\x01\0\x01\0\0\x03\xe8\0\0\0\x64\
                 R\0\0\0\0\0\0\x01\0\0\0\0\0\0\0\0\0\0\0\
@@ -47,19 +47,19 @@ const CASES: &[Case] = &[
         },
     },
     // It writes nothing.
-    Case {
+    OutsideCase {
         patience: 1000,
         came: &[&[
-            Came::Ok(OutKind::Open, 0, b""),
-            Came::Ok(OutKind::Write, 0, b""),
-            Came::Fail(OutKind::Write, Errno::EIO),
+            GivenOutcome::Ok(OutKind::Open, 0, b""),
+            GivenOutcome::Ok(OutKind::Write, 0, b""),
+            GivenOutcome::Fail(OutKind::Write, Errno::EIO),
         ]],
-        seen: Wanted {
+        seen: WantedEnd {
             end: None,
             rows: &[&[
-                (1, Seen::Number(0)),
-                (105, Seen::Count(0)),
-                (209, Seen::Fail(Errno::EIO)),
+                (1, SeenReply::Number(0)),
+                (105, SeenReply::Count(0)),
+                (209, SeenReply::Fail(Errno::EIO)),
             ]],
             log: b"DIOL\0\x01\0\x01\0\0\x03\xe8\0\0\0\x64\
                 R\0\0\0\0\0\0\x01\0\0\0\0\0\0\0\0\0\0\0\
@@ -69,15 +69,15 @@ const CASES: &[Case] = &[
         },
     },
     // It would block, and is made again.
-    Case {
+    OutsideCase {
         patience: 1000,
         came: WOULD_BLOCK,
-        seen: Wanted {
+        seen: WantedEnd {
             end: None,
             rows: &[&[
-                (1, Seen::Number(0)),
-                (209, Seen::Count(3)),
-                (313, Seen::Fail(Errno::EIO)),
+                (1, SeenReply::Number(0)),
+                (209, SeenReply::Count(3)),
+                (313, SeenReply::Fail(Errno::EIO)),
             ]],
             log: b"DIOL\0\x01\0\x01\0\0\x03\xe8\0\0\0\x64\
                 R\0\0\0\0\0\0\x01\0\0\0\0\0\0\0\0\0\0\0\
@@ -89,12 +89,15 @@ const CASES: &[Case] = &[
     },
     // It would block and has no patience, so the third call, of two
     // bytes, meets the count of three. That is not in the log.
-    Case {
+    OutsideCase {
         patience: 1,
         came: WOULD_BLOCK,
-        seen: Wanted {
+        seen: WantedEnd {
             end: Some(Stop::Diverged(0, 2)),
-            rows: &[&[(1, Seen::Number(0)), (105, Seen::Fail(Errno::EINTR))]],
+            rows: &[&[
+                (1, SeenReply::Number(0)),
+                (105, SeenReply::Fail(Errno::EINTR)),
+            ]],
             log: b"DIOL\0\x01\0\x01\0\0\0\x01\0\0\0\x64\
                 R\0\0\0\0\0\0\x01\0\0\0\0\0\0\0\0\0\0\0\
                 R\0\0\0\0\0\x01\x03\x06\0\0\0\0\0\0\0\0\0\0",
@@ -102,11 +105,11 @@ const CASES: &[Case] = &[
     },
 ];
 
-const WOULD_BLOCK: &[&[Came]] = &[&[
-    Came::Ok(OutKind::Open, 0, b""),
-    Came::Fail(OutKind::Write, Errno::EAGAIN),
-    Came::Ok(OutKind::Write, 3, b""),
-    Came::Fail(OutKind::Write, Errno::EIO),
+const WOULD_BLOCK: &[&[GivenOutcome]] = &[&[
+    GivenOutcome::Ok(OutKind::Open, 0, b""),
+    GivenOutcome::Fail(OutKind::Write, Errno::EAGAIN),
+    GivenOutcome::Ok(OutKind::Write, 3, b""),
+    GivenOutcome::Fail(OutKind::Write, Errno::EIO),
 ]];
 
 #[test]

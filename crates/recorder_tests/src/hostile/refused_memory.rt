@@ -1,9 +1,9 @@
 use crate::hostile::runs::{
-    LOG_WITH_CLOCKS, PATIENCE_ON_A_PIPE, PATIENCE_SEEN, READER_SEEN, READER_WAITS, Run,
-    SEEN_WITH_CLOCKS, SHORT_HOST_WRITE, SHORT_LOG, SHORT_SEEN, SHORT_WRITE_WITH_CLOCKS, Wanted,
+    GivenRun, LOG_WITH_CLOCKS, PATIENCE_ON_A_PIPE, PATIENCE_SEEN, READER_SEEN, READER_WAITS,
+    SEEN_WITH_CLOCKS, SHORT_HOST_WRITE, SHORT_LOG, SHORT_SEEN, SHORT_WRITE_WITH_CLOCKS, WantedEnd,
 };
 use crate::hostile::ways::{
-    Told, memory_if, plain, recorded, replayed, replayed_by_threads, whole_if,
+    Outturn, memory_if, plain, recorded, replayed, replayed_by_threads, whole_if,
 };
 use crate::record::scripts;
 use input_log::{Header, LogFault, LogReader, LogText, LogWriter, MemorySink, decode};
@@ -22,7 +22,7 @@ use thread_scripts::{Actor, Memory, ScriptActor, ScriptFault, Step, parse};
 // test itself wants memory for counts as such an answer. See
 // tools/refused-allocations.
 
-const RUNS: &[(Run, Wanted)] = &[
+const RUNS: &[(GivenRun, WantedEnd)] = &[
     (PATIENCE_ON_A_PIPE, PATIENCE_SEEN),
     (SHORT_HOST_WRITE, SHORT_SEEN),
     (SHORT_WRITE_WITH_CLOCKS, SEEN_WITH_CLOCKS),
@@ -30,10 +30,10 @@ const RUNS: &[(Run, Wanted)] = &[
 ];
 
 // Whether of two answers none is wrong, and one at least is whole.
-fn is_one_whole(first: Result<Told, AllocError>, second: Result<Told, AllocError>) -> bool {
+fn is_one_whole(first: Result<Outturn, AllocError>, second: Result<Outturn, AllocError>) -> bool {
     match (first, second) {
-        (Ok(Told::Whole), Ok(told)) | (Ok(told), Ok(Told::Whole)) => told != Told::Wrong,
-        (Ok(Told::Whole), Err(_)) | (Err(_), Ok(Told::Whole)) => true,
+        (Ok(Outturn::Whole), Ok(told)) | (Ok(told), Ok(Outturn::Whole)) => told != Outturn::Wrong,
+        (Ok(Outturn::Whole), Err(_)) | (Err(_), Ok(Outturn::Whole)) => true,
         _ => false,
     }
 }
@@ -41,7 +41,7 @@ fn is_one_whole(first: Result<Told, AllocError>, second: Result<Told, AllocError
 // ## Scripts
 
 // What `parse` tells of a text of so many lines.
-fn parsed(alloc: Global, text: &[u8], lines: usize) -> Told {
+fn parsed(alloc: Global, text: &[u8], lines: usize) -> Outturn {
     match parse(alloc, text) {
         Ok(script) => whole_if(script.lines().len() == lines),
         Err(fault) => memory_if(fault == ScriptFault::Memory),
@@ -84,7 +84,7 @@ fn is_step(step: &Step, line: &[u8]) -> bool {
 }
 
 // What an actor's steps tell, one for each line of its text; after the last is its end.
-fn steps(alloc: Global, text: &[u8]) -> Result<Told, AllocError> {
+fn steps(alloc: Global, text: &[u8]) -> Result<Outturn, AllocError> {
     let Ok(script) = parse(alloc, text) else {
         return Err(AllocError);
     };
@@ -92,10 +92,10 @@ fn steps(alloc: Global, text: &[u8]) -> Result<Told, AllocError> {
     for line in text.split(|byte| *byte == b'\n') {
         match next(&mut actor) {
             Ok(step) if is_step(&step, line) => {}
-            _ => return Ok(Told::Wrong),
+            _ => return Ok(Outturn::Wrong),
         }
     }
-    Ok(Told::Whole)
+    Ok(Outturn::Whole)
 }
 
 #[test]
@@ -110,7 +110,7 @@ fn next_is_whole_or_wants_memory(rt: HostRuntime) {
 
 // ## Logs
 
-fn log(read: Result<LogText, LogFault>) -> Told {
+fn log(read: Result<LogText, LogFault>) -> Outturn {
     match read {
         Ok(log) => whole_if(log.closed && log.records.as_slice().len() == 3),
         Err(fault) => memory_if(fault == LogFault::Memory),
@@ -127,19 +127,19 @@ fn decode_is_whole_or_wants_memory(rt: HostRuntime) {
 }
 
 // What a reader tells that is fed pieces of this length. Once it wants memory it answers so again.
-fn fed(alloc: Global, length: usize) -> Told {
+fn fed(alloc: Global, length: usize) -> Outturn {
     let mut reader = LogReader::new(alloc);
     let mut wants = false;
     for piece in SHORT_LOG.chunks(length.max(1)) {
         match reader.feed(piece) {
             Ok(()) if !wants => {}
             Err(LogFault::Memory) => wants = true,
-            _ => return Told::Wrong,
+            _ => return Outturn::Wrong,
         }
     }
     match reader.finish() {
-        Err(LogFault::Memory) if wants => Told::Memory,
-        _ if wants => Told::Wrong,
+        Err(LogFault::Memory) if wants => Outturn::Memory,
+        _ if wants => Outturn::Wrong,
         read => log(read),
     }
 }
@@ -170,7 +170,7 @@ const SETTINGS: Settings = Settings {
 
 // What a new machine tells. Without memory the writer comes back, whose sink has the header.
 #[tactic(auto, unfolding(input_log::specs::Grammar::in_range))]
-fn started(alloc: Global) -> Result<Told, AllocError> {
+fn started(alloc: Global) -> Result<Outturn, AllocError> {
     match LogWriter::begin(MemorySink::new(alloc, 21)?, HEADER) {
         Ok(log) => Ok(
             match Machine::<MemorySink, u8>::new(alloc, 2, SETTINGS, log) {
@@ -178,7 +178,7 @@ fn started(alloc: Global) -> Result<Told, AllocError> {
                 Err(log) => memory_if(log.into_sink().bytes().len() == 16),
             },
         ),
-        Err(_) => Ok(Told::Wrong),
+        Err(_) => Ok(Outturn::Wrong),
     }
 }
 
@@ -208,7 +208,7 @@ fn a_replay_is_whole_or_wants_memory(rt: HostRuntime) {
 }
 
 // What the upgrade of the short host write's log tells.
-fn upgraded(alloc: Global) -> Result<Told, AllocError> {
+fn upgraded(alloc: Global) -> Result<Outturn, AllocError> {
     let scripts = scripts(alloc, SHORT_HOST_WRITE.scripts)?;
     Ok(match upgrade(alloc, SHORT_LOG, scripts) {
         Ok(log) => whole_if(log.as_slice() == LOG_WITH_CLOCKS),
@@ -222,7 +222,12 @@ fn an_upgrade_is_whole_or_wants_memory(rt: HostRuntime) {
     assert!(rt; is_one_whole(first, upgraded(rt.alloc())));
 }
 
-fn is_recorded<R: Threads + Wait + Sync>(rt: &R, alloc: Global, run: Run, wanted: Wanted) -> bool {
+fn is_recorded<R: Threads + Wait + Sync>(
+    rt: &R,
+    alloc: Global,
+    run: GivenRun,
+    wanted: WantedEnd,
+) -> bool {
     let first = recorded(rt, alloc, run, 110, wanted);
     is_one_whole(first, recorded(rt, alloc, run, 110, wanted))
 }
@@ -237,8 +242,8 @@ fn a_recorded_run_is_whole_or_wants_memory(rt: HostRuntime) {
 fn is_replayed_by_threads<R: Threads + Wait + Sync>(
     rt: &R,
     alloc: Global,
-    run: Run,
-    wanted: Wanted,
+    run: GivenRun,
+    wanted: WantedEnd,
 ) -> bool {
     let first = replayed_by_threads(rt, alloc, wanted.log, run, wanted);
     let second = replayed_by_threads(rt, alloc, wanted.log, run, wanted);

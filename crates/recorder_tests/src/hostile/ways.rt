@@ -1,6 +1,6 @@
 ghost use Rattle.std.specs.Prelude.{◌≤◌};
 
-use crate::hostile::runs::{Run, Wanted, lists};
+use crate::hostile::runs::{GivenRun, WantedEnd, lists};
 use crate::outcomes::{OfThread, doors};
 use crate::record::{actors, record, scripts};
 use crate::seen::{saw, saw_beginning};
@@ -19,24 +19,32 @@ use std::thread::Threads;
 // memory, and what came before is a beginning of what is wanted;
 // or something else.
 #[derive(Clone, Copy, Debug, PartialEq, Eq)]
-pub(crate) enum Told {
+pub(crate) enum Outturn {
     Whole,
     Memory,
     Wrong,
 }
 
-pub(crate) fn whole_if(whole: bool) -> Told {
-    if whole { Told::Whole } else { Told::Wrong }
+pub(crate) fn whole_if(whole: bool) -> Outturn {
+    if whole {
+        Outturn::Whole
+    } else {
+        Outturn::Wrong
+    }
 }
 
-pub(crate) fn memory_if(beginning: bool) -> Told {
-    if beginning { Told::Memory } else { Told::Wrong }
+pub(crate) fn memory_if(beginning: bool) -> Outturn {
+    if beginning {
+        Outturn::Memory
+    } else {
+        Outturn::Wrong
+    }
 }
 
 // What a run tells that stopped so, whose threads saw this and which
 // wrote this log. Where there was no memory each saw a
 // beginning.
-fn shows(wanted: Wanted, stop: Option<Stop>, transcripts: &Transcripts, log: &[u8]) -> Told {
+fn shows(wanted: WantedEnd, stop: Option<Stop>, transcripts: &Transcripts, log: &[u8]) -> Outturn {
     if stop == Some(Stop::Memory) {
         return memory_if(saw_beginning(transcripts, wanted.rows) && wanted.log.starts_with(log));
     }
@@ -44,7 +52,11 @@ fn shows(wanted: Wanted, stop: Option<Stop>, transcripts: &Transcripts, log: &[u
 }
 
 // The plain run.
-pub(crate) fn plain(alloc: Global, run: Run, wanted: Wanted) -> Result<Told, AllocError> {
+pub(crate) fn plain(
+    alloc: Global,
+    run: GivenRun,
+    wanted: WantedEnd,
+) -> Result<Outturn, AllocError> {
     let scripts = scripts(alloc, run.scripts)?;
     let lists = lists(alloc, run)?;
     Ok(match plain_run(alloc, scripts, lists, run.settings()) {
@@ -57,10 +69,10 @@ pub(crate) fn plain(alloc: Global, run: Run, wanted: Wanted) -> Result<Told, All
 pub(crate) fn recorded<R: Threads + Wait + Sync>(
     rt: &R,
     alloc: Global,
-    run: Run,
+    run: GivenRun,
     room: usize,
-    wanted: Wanted,
-) -> Result<Told, AllocError> {
+    wanted: WantedEnd,
+) -> Result<Outturn, AllocError> {
     Ok(match record(rt, alloc, run, run.scripts.len(), room)? {
         Ok(over) => shows(wanted, over.stop, &over.transcripts, over.sink.bytes()),
         Err(refused) => memory_if(refused.fault == StartFault::Memory),
@@ -74,7 +86,7 @@ type NoShortRun = NotStarted<BoxedActor, ScriptDoors<OfThread>, ShortSink>;
 fn record_short<R: Threads + Wait + Sync>(
     rt: &R,
     alloc: Global,
-    run: Run,
+    run: GivenRun,
     most: usize,
     fail_at: Option<u64>,
 ) -> Result<Result<Ends, NoShortRun>, AllocError>
@@ -90,11 +102,11 @@ fn record_short<R: Threads + Wait + Sync>(
 pub(crate) fn recorded_short<R: Threads + Wait + Sync>(
     rt: &R,
     alloc: Global,
-    run: Run,
+    run: GivenRun,
     most: usize,
     fail_at: Option<u64>,
-    wanted: Wanted,
-) -> Result<Told, AllocError>
+    wanted: WantedEnd,
+) -> Result<Outturn, AllocError>
     requires { 1 ≤ most }
 {
     match record_short(rt, alloc, run, most, fail_at)? {
@@ -107,9 +119,9 @@ pub(crate) fn recorded_short<R: Threads + Wait + Sync>(
 pub(crate) fn replayed(
     alloc: Global,
     log: &[u8],
-    run: Run,
-    wanted: Wanted,
-) -> Result<Told, AllocError> {
+    run: GivenRun,
+    wanted: WantedEnd,
+) -> Result<Outturn, AllocError> {
     Ok(match replay(alloc, log, scripts(alloc, run.scripts)?) {
         Ok(replayed) => whole_if(saw(&replayed.transcripts, wanted.rows)),
         Err(fault) => memory_if(matches!(fault, ReplayFault::Memory)),
@@ -121,9 +133,9 @@ pub(crate) fn replayed_by_threads<R: Threads + Wait + Sync>(
     rt: &R,
     alloc: Global,
     log: &[u8],
-    run: Run,
-    wanted: Wanted,
-) -> Result<Told, AllocError> {
+    run: GivenRun,
+    wanted: WantedEnd,
+) -> Result<Outturn, AllocError> {
     Ok(
         match replay_threads(rt, alloc, log, actors(alloc, run.scripts)?) {
             Ok(over) => shows(wanted, over.stop, &over.transcripts, over.sink.bytes()),
@@ -136,10 +148,10 @@ pub(crate) fn replayed_by_threads<R: Threads + Wait + Sync>(
 pub(crate) fn is_run<R: Threads + Wait + Sync>(
     rt: &R,
     alloc: Global,
-    run: Run,
-    wanted: Wanted,
+    run: GivenRun,
+    wanted: WantedEnd,
 ) -> Result<bool, AllocError> {
     let plain = plain(alloc, run, wanted)?;
     let recorded = recorded(rt, alloc, run, 100, wanted)?;
-    Ok(plain == Told::Whole && recorded == Told::Whole)
+    Ok(plain == Outturn::Whole && recorded == Outturn::Whole)
 }
