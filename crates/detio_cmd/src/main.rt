@@ -1,7 +1,6 @@
 //! `detio`: deterministic record and replay of calls on one shared table of descriptors.
 #![tactic(auto)]
 
-mod command;
 mod draw;
 mod explore;
 mod faults;
@@ -16,7 +15,7 @@ mod writing;
 use check_commands::check_over;
 use clap::ArgMatches;
 use clap::error::ErrorKind;
-use command::command;
+use command_line::command;
 use commands::{
     LogTo, RunOptions, View, cannot_write, make_over, no_memory, plain_over, replay_over,
     replay_threads_over, settings_of, show_over, upgrade_over,

@@ -715,7 +715,7 @@ prints at last
   end 2";
 
 /// The command line of the program.
-pub(crate) fn command<'a>(alloc: Global) -> Result<Command<'a>, AllocError> {
+pub fn command<'a>(alloc: Global) -> Result<Command<'a>, AllocError> {
     let subcommands = subcommands(alloc)?;
     program(alloc)?.subcommands(subcommands)
 }
