@@ -8,8 +8,16 @@ HEAD = re.compile(
     r'(?P<indent> *)(?:pub(?:\([^)]*\))? )?(?:const )?(?:unsafe )?(?:extern "C" )?fn (?P<name>\w+)'
 )
 OWNER = re.compile(r"(?:pub )?(?:impl|trait)\b")
-REFUSED = re.compile(r"^fn (?P<name>\S+): (?:not proved|no proof: (?!it calls)(?P<why>.*))", re.M)
-ALONE = re.compile(r"(?:rt: )?must-fail \w+/(?P<name>[^/]+)\.edit: (?P<what>.*)")
+REFUSED = re.compile(r"^fn (?P<name>\S+): (?:not proved|no proof: (?!it (?:calls|passes) )(?P<why>.*))", re.M)
+GOAL = re.compile(r"`search` did not prove ([^;]*)")
+ERROR = re.compile(r"^(?:\./)?(?P<file>\S+?):\d+:\d+: error: (?:(?P<named>`[^`]*`): )?(?P<what>.*)", re.M)
+# A proof file names what an edit took away, or cites what is not proved since another edit is in the same batch.
+LACKS = re.compile(r"has no field|is not in scope|has no `|was not admitted")
+# A text that cannot be read, so that no contract was tried.
+UNREAD = re.compile(r"is not in scope|has no field|is no name|operand is missing|expected the end|cannot continue")
+
+# What is said of a function whose proof file does not fit it any more.
+NO_FIT = "its proof file does not fit"
 
 # The texts of changed files, by their paths.
 Texts = dict[str, str]
@@ -40,18 +48,20 @@ class Found:
 def functions(text: str) -> list[Found]:
     """The functions of a source file that is laid out by `rt fmt`."""
     found: list[Found] = []
-    at, owner, begun, has_body = 0, "", None, False
+    at, owner, begun, has_body, depth = 0, "", None, False, 0
     for line in text.split("\n"):
         owner = line if OWNER.match(line) else "" if line.startswith("}") else owner
         head = HEAD.match(line)
         if head and begun is None:
-            begun, has_body = (at, head["indent"], head["name"], owner), line.endswith("{")
+            begun, has_body, depth = (at, head["indent"], head["name"], owner), line.endswith("{"), 0
         if begun:
             start, indent, name, around = begun
+            depth += line.count("{") - line.count("}")
             is_last_of_head = line == indent + "{" or line.startswith(indent + ")") and line.endswith("{")
             has_body = has_body or is_last_of_head
-            is_whole = head and re.search(r"[;}]$", line) and line.count("{") == line.count("}")
-            if is_whole or line == indent + "}" or line.endswith(";") and not has_body:
+            is_whole = head and re.search(r"[;}]$", line) and depth == 0
+            # (a `;` within the braces of a clause ends nothing)
+            if is_whole or line == indent + "}" or line.endswith(";") and not has_body and depth == 0:
                 found.append(Found(start, at + len(line), name, around))
                 begun = None
         at += len(line) + 1
@@ -90,25 +100,28 @@ def pairs_of(text: str) -> list[tuple[str, str, str]]:
 
 
 class Edit:
-    """An edit: its name, its pairs of old and new text, and the functions that they change."""
+    """An edit: its name, its pairs of old and new text, the functions that they change, and those that refuse it."""
 
     def __init__(self, name: str, folder: str) -> None:
         self.name = name
-        self.pairs = pairs_of(read(folder, f"must-fail/{name}.edit"))
+        text = read(folder, f"must-fail/{name}.edit")
+        self.pairs = pairs_of(text)
         texts: Texts = {}
         places: list[Function | None] = []
         for path, old, new in self.pairs:
-            text = texts[path] if path in texts else read(folder, path)
-            places.append(place(path, text, old))
-            texts[path] = text.replace(old, new)
+            now = texts[path] if path in texts else read(folder, path)
+            places.append(place(path, now, old))
+            texts[path] = now.replace(old, new)
         self.places = list(dict.fromkeys(places))
+        self.refused_by = re.findall(r"^refused by: (\S+)$", text, re.M)
 
-    def function(self) -> Function | None:
-        """The one function that it changes, or None where it goes alone."""
-        return self.places[0] if len(self.places) == 1 else None
+    def functions(self) -> list[Function]:
+        """The functions that it changes, or none where it changes something else too, and so goes alone."""
+        return [] if None in self.places else [it for it in self.places if it]
 
     def where(self) -> str:
-        return " and ".join(str(it) if it else "no function" for it in self.places)
+        found = [str(it) for it in self.places if it]
+        return " and ".join(found + ["what is no function"] * (None in self.places))
 
     def apply(self, texts: Texts, folder: str) -> bool:
         """Adds this edit to the texts of changed files, or returns False where another edit is in its way."""
@@ -140,37 +153,70 @@ def names_of(folder: str) -> list[str]:
     return sorted(it.removesuffix(".edit") for it in os.listdir(f"{folder}/must-fail") if it.endswith(".edit"))
 
 
-def batches(edits: list[Edit], size: int, folder: str) -> Iterator[tuple[list[Edit], Texts]]:
-    """Groups edits of different functions, so many at most, and yields them with the texts that they make."""
+def batches(edits: list[Edit], folder: str) -> Iterator[tuple[list[Edit], Texts]]:
+    """Groups edits of different functions, and yields them with the texts that they make."""
     left = list(edits)
     while left:
         texts: Texts = {}
         taken: list[Edit] = []
-        places: set[Function | None] = set()
+        places: set[Function] = set()
         for it in left:
-            if len(taken) < size and it.function() not in places and it.apply(texts, folder):
+            if not places & set(it.functions()) and it.apply(texts, folder):
                 taken.append(it)
-                places.add(it.function())
+                places |= set(it.functions())
         if not taken:
             return  # what is left cannot be applied
         left = [it for it in left if it not in taken]
         yield taken, texts
 
 
+def path_of(function: Function) -> str:
+    """What `rattle check --only` takes for a function: its path, or of a method the end of its name."""
+    if function.owner:
+        return "::".join(["".join(reversed(function.owner)), function.name])
+    return function.name if function.module in ("lib", "main") else f"{function.module}::{function.name}"
+
+
 def own_line(crate: str, function: Function, said: str) -> str | None:
-    """What a check says of the edited function itself, where it is refused. A method is named by its type's module."""
+    """Why a check refuses the edited function itself, if it does. A method is named by its type's module."""
     is_inside = function.owner or function.module in ("lib", "main")
     inside = [crate] if is_inside else [crate, *function.module.split("::")]
     for it in REFUSED.finditer(said):
         words = it["name"].split("::")
         is_owned = not function.owner or any(word.startswith(function.owner[-1]) for word in words[:-1])
         if words[: len(inside)] == inside and function.name in words and is_owned:
-            goal = re.search(r"`search` did not prove ([^;]*)", it["why"] or "")
-            return goal[1] if goal else (it["why"] or "its proof file does not fit")
+            return it["why"] or NO_FIT
     return None
 
 
-def alone_said(line: str) -> tuple[str, str] | None:
-    """Of a line of `rt must-fail` the name of the edit and what is said of it, or None where it is another line."""
-    found = ALONE.match(line)
-    return (found["name"], found["what"]) if found else None
+def goal_of(line: str) -> str:
+    """The goal that was not proved, of why a function is refused."""
+    goal = GOAL.search(line)
+    return goal[1] if goal else line
+
+
+def is_its_own(function: Function, line: str, said: str) -> bool:
+    """Whether a function is refused for a goal of its own, and not since its proof cites what another edit broke."""
+    if line != NO_FIT:
+        return bool(GOAL.search(line))
+    inside = [*function.owner[-1:], function.name]
+    for it in ERROR.finditer(said):
+        words = it["file"].split("/")
+        if words[0] == "proofs" and set(inside) <= set(words) and not LACKS.search(it["what"]):
+            return True
+    return False
+
+
+def line_by(crate: str, path: str, said: str) -> str | None:
+    """Why a check refuses the function with this path below the crate, if it does."""
+    found = next((it for it in REFUSED.finditer(said) if it["name"] == f"{crate}::{path}"), None)
+    return (found["why"] or NO_FIT) if found else None
+
+
+def unread(said: str, changed: Texts) -> str | None:
+    """The first text of the crate that the prover could not read, if there is one."""
+    for it in ERROR.finditer(said):
+        if it["file"] in changed or it["file"].startswith(("src/", "specs/")):
+            if not it["named"] or UNREAD.search(re.sub("`[^`]*`", "", it["what"])):
+                return it[0]
+    return None

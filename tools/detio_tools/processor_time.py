@@ -23,7 +23,7 @@ class Process:
         if os.path.basename(self.words[0]) != "rattle" or "--crate-name" not in self.words[:-1]:
             return None
         crate = self.words[self.words.index("--crate-name") + 1]
-        if any(it.startswith("rt-edit") for it in self.folder.split("/")):
+        if any(it.startswith(("edits-", "rt-edit")) for it in self.folder.split("/")):
             return crate, "edits"
         return crate, "tests" if "--test" in self.words else "proof"
 

@@ -33,12 +33,21 @@ where
 pub(crate) const fn two() -> u8 {
     2
 }
+
+fn left(lock: &Lock<u8>) -> u8
+    ensures rest { *lock ≡ record *lock {
+        held = None;
+    } }
+{
+    lock.left()
+}
 """
 # The file, the old text and the new text of each pair.
 ONE = [("src/lock.rt", "self.held = Some(by);", "self.held = None;")]
 AGAIN = [("src/lock.rt", "self.count += 1;", "self.count += 2;")]
 TWO = [("src/lock.rt", "    2", "    3")]
 BOTH = [*ONE, *TWO]
+LEFT = [("src/lock.rt", "lock.left()", "0")]
 DEFINITION = [("specs/Held.antt", "it-is-held = true", "it-is-held = false")]
 
 
@@ -60,29 +69,38 @@ class Edits(unittest.TestCase):
         self.assertEqual(self.edit("one", ONE).where(), "lock::Lock::take")
         self.assertEqual(self.edit("two", TWO).where(), "lock::two")
         self.assertEqual(self.edit("both", BOTH).where(), "lock::Lock::take and lock::two")
-        self.assertEqual(self.edit("definition", DEFINITION).where(), "no function")
+        self.assertEqual(self.edit("definition", DEFINITION).where(), "what is no function")
+        self.assertEqual(self.edit("left", LEFT).where(), "lock::left")
 
     def test_which_goes_alone(self) -> None:
-        self.assertIsNone(self.edit("both", BOTH).function())
-        self.assertIsNone(self.edit("definition", DEFINITION).function())
-        self.assertEqual(self.edit("two", TWO).function(), Function("lock", "two", ()))
+        both = self.edit("both", BOTH).functions()
+        self.assertEqual(both, [Function("lock", "take", ("Shown", "Lock")), Function("lock", "two", ())])
+        self.assertEqual(self.edit("definition", [*ONE, *DEFINITION]).functions(), [])
+
+    def test_refused_by(self) -> None:
+        edits.write(self.folder, {"must-fail/law.edit": "refused by: laws::held\nfile: specs/Held.antt\n"})
+        self.assertEqual(Edit("law", self.folder).refused_by, ["laws::held"])
+        self.assertEqual(self.edit("one", ONE).refused_by, [])
+
+    def test_path(self) -> None:
+        paths = [edits.path_of(self.edit(name, pairs).functions()[0]) for name, pairs in (("one", ONE), ("two", TWO))]
+        self.assertEqual(paths, ["LockShown::take", "lock::two"])
 
     def test_batches(self) -> None:
-        given = [self.edit(name, pairs) for name, pairs in (("one", ONE), ("again", AGAIN), ("two", TWO))]
-        found = [[it.name for it in taken] for taken, _ in edits.batches(given, 12, self.folder)]
-        self.assertEqual(found, [["one", "two"], ["again"]])
-        found = [[it.name for it in taken] for taken, _ in edits.batches(given, 1, self.folder)]
-        self.assertEqual(found, [["one"], ["again"], ["two"]])
+        named = (("one", ONE), ("again", AGAIN), ("two", TWO), ("both", BOTH))
+        given = [self.edit(name, pairs) for name, pairs in named]
+        found = [[it.name for it in taken] for taken, _ in edits.batches(given, self.folder)]
+        self.assertEqual(found, [["one", "two"], ["again"], ["both"]])
 
     def test_texts_of_a_batch(self) -> None:
         given = [self.edit("one", ONE), self.edit("two", TWO)]
-        ((_, texts),) = edits.batches(given, 12, self.folder)
+        ((_, texts),) = edits.batches(given, self.folder)
         changed = SOURCE.replace("Some(by)", "None").replace("    2\n", "    3\n")
         self.assertEqual(texts, {"src/lock.rt": changed})
 
     def test_what_cannot_be_applied(self) -> None:
         given = [self.edit("lacking", [("src/lock.rt", "not there", "")]), self.edit("two", TWO)]
-        found = [[it.name for it in taken] for taken, _ in edits.batches(given, 12, self.folder)]
+        found = [[it.name for it in taken] for taken, _ in edits.batches(given, self.folder)]
         self.assertEqual(found, [["two"]])
 
 
@@ -91,22 +109,41 @@ class Lines(unittest.TestCase):
 
     def test_own_line(self) -> None:
         said = (
-            "fn low::lock::Lock::take: no proof: expected answers; `search` did not prove `returns`\n"
+            "fn low::lock::Lock::take: no proof: expected answers; `search` did not prove `returns`; it calls `two`\n"
             "fn low::lock::two: no proof: it calls low::lock::Lock::take\n"
+            "fn low::lock::three: no proof: it passes the block `Lock`, which is not proved\n"
             "fn low::lock::Other::take: not proved\n"
         )
-        self.assertEqual(edits.own_line("low", self.TAKE, said), "`returns`")
+        self.assertEqual(edits.goal_of(edits.own_line("low", self.TAKE, said) or ""), "`returns`")
         self.assertIsNone(edits.own_line("low", Function("lock", "two", ()), said))
+        self.assertIsNone(edits.own_line("low", Function("lock", "three", ()), said))
         self.assertIsNone(edits.own_line("high", self.TAKE, said))
 
     def test_not_proved(self) -> None:
         said = "fn low::lock::Lock::take: not proved\n"
-        self.assertEqual(edits.own_line("low", self.TAKE, said), "its proof file does not fit")
+        self.assertEqual(edits.own_line("low", self.TAKE, said), edits.NO_FIT)
 
-    def test_alone(self) -> None:
-        found = edits.alone_said("rt: must-fail low/one.edit: refused, as it must be: note: src/lock.rt:1:1: why\n")
-        self.assertEqual(found, ("one", "refused, as it must be: note: src/lock.rt:1:1: why"))
-        self.assertIsNone(edits.alone_said("rt: low is kept\n"))
+    def test_its_own(self) -> None:
+        self.assertTrue(edits.is_its_own(self.TAKE, "expected answers; `search` did not prove `returns`", ""))
+        self.assertFalse(edits.is_its_own(self.TAKE, "expected answers in `a file`", ""))
+        self.assertFalse(edits.is_its_own(self.TAKE, edits.NO_FIT, ""))
+        at = "./proofs/lock/Lock/take/Answers.antt:1:2: error: `returns`: "
+        self.assertTrue(edits.is_its_own(self.TAKE, edits.NO_FIT, f"{at}`search`: no proof of `x`\n"))
+        self.assertFalse(edits.is_its_own(self.TAKE, edits.NO_FIT, f"{at}`met` was not admitted\n"))
+        self.assertFalse(edits.is_its_own(Function("lock", "two", ()), edits.NO_FIT, f"{at}no proof\n"))
+
+    def test_line_by(self) -> None:
+        said = "fn low::laws::held: not proved\n"
+        self.assertEqual(edits.line_by("low", "laws::held", said), edits.NO_FIT)
+        self.assertIsNone(edits.line_by("low", "held", said))
+
+    def test_unread(self) -> None:
+        changed = {"src/lock.rt": ""}
+        self.assertIsNone(edits.unread("./proofs/lock/two/Answers.antt:1:2: error: `x` is not in scope\n", changed))
+        self.assertIsNone(edits.unread("./specs/Held.antt:1:2: error: `held`: the types differ\n", changed))
+        scope, end = "specs/Held.antt:1:2: error: `held`: `x` is not in scope", "src/lock.rt:3:4: error: expected the end"
+        for said in scope, end:
+            self.assertEqual(edits.unread(f"fn low::two: proved\n{said}\n", changed), said)
 
 
 if __name__ == "__main__":

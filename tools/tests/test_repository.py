@@ -23,6 +23,9 @@ class Crates(unittest.TestCase):
         self.assertEqual(repository.below(uses, "library_for_c"), ["low", "middle"])
         self.assertEqual(repository.below(uses, "alone"), [])
 
+    def test_static(self) -> None:
+        self.assertEqual(repository.static(LIST), {"library_for_c"})
+
     def test_the_repository_has_its_crates(self) -> None:
         uses = repository.crates(repository.read("crates.txt"))
         self.assertEqual(uses["logical_clocks"], ["posix_terms"])
@@ -43,7 +46,8 @@ class ProcessorTime(unittest.TestCase):
 
     def test_parts(self) -> None:
         self.assertEqual(process(1, 0, *self.PROVER, "--test").part(), ("low", "tests"))
-        self.assertEqual(process(1, 0, *self.PROVER, folder="/tmp/rt-edit-5-x").part(), ("low", "edits"))
+        for folder in "/tmp/rt-edit-5-x", "/tmp/edits-5":
+            self.assertEqual(process(1, 0, *self.PROVER, folder=folder).part(), ("low", "edits"))
         self.assertIsNone(process(1, 0, "python3", "rt", "ci").part())
         self.assertIsNone(process(1, 0, "").part())
 
