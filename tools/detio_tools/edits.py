@@ -50,7 +50,10 @@ def functions(text: str) -> list[Found]:
     found: list[Found] = []
     at, owner, begun, has_body, depth = 0, "", None, False, 0
     for line in text.split("\n"):
-        owner = line if OWNER.match(line) else "" if line.startswith("}") else owner
+        # (the head of an `impl` may take several lines)
+        begins = bool(OWNER.match(line))
+        is_rest = not begins and OWNER.match(owner) and not re.search(r"[{}]", owner)
+        owner = line if begins else f"{owner} {line.strip()}" if is_rest else "" if line.startswith("}") else owner
         head = HEAD.match(line)
         if head and begun is None:
             begun, has_body, depth = (at, head["indent"], head["name"], owner), line.endswith("{"), 0
@@ -80,9 +83,29 @@ def place(path: str, text: str, old: str) -> Function | None:
     module = re.sub(r"^src/|\.rt$|/mod(?=\.rt)", "", path).replace("/", "::")
     for it in functions(text) if path.endswith(".rt") else []:
         if it.first <= at <= it.last:
-            words = re.findall(r"[A-Z]\w+", without_parameters(it.owner.split("{")[0].split(" where ")[0]))
-            return Function(module, it.name, tuple(words))
+            return Function(module, it.name, owner_of(it.owner.split("{")[0].split(" where ")[0]))
     return None
+
+
+def owner_of(head: str) -> tuple[str, ...]:
+    """The trait, with the types that it is given, and the type of the head of an `impl`; or the one of these there is."""
+    trait, _, type_of = without_own_parameters(head).rpartition(" for ")
+    given = re.search(r"<(.*)>", trait)
+    types = [it for it in re.findall(r"[A-Z]\w+", given[1] if given else "") if f"{it}:" not in head]
+    words = re.findall(r"[A-Z]\w+", without_parameters(trait))[:1]
+    return (*("".join([it, *types]) for it in words), *re.findall(r"[A-Z]\w+", without_parameters(type_of)))
+
+
+def without_own_parameters(head: str) -> str:
+    """The head of an `impl` without the parameters that it declares."""
+    depth, at = 0, head.find("<")
+    if not re.match(r"(pub )?impl<", head):
+        return head
+    for place in range(at, len(head)):
+        depth += {"<": 1, ">": -1}.get(head[place], 0)
+        if depth == 0:
+            return head[:at] + head[place + 1 :]
+    return head
 
 
 def pairs_of(text: str) -> list[tuple[str, str, str]]:

@@ -84,6 +84,15 @@ def refusal(trial: Trial, it: Edit, status: int, said: str) -> str | None:
 def judge(trial: Trial, status: int, said: str) -> Judged:
     """What this check says of each edit. What is not refused is tried alone, and at last by a check of the crate."""
     found = Judged()
+    unknown = [path for path in trial.only if status == 2 and f"`{path}`" in said]
+    if unknown:
+        # (a path that names no function, or several: those that stand there are tried on)
+        others = [it for it in trial.given if not set(unknown) & {*paths([it]), *it.refused_by}]
+        rest = [it for it in trial.given if it not in others]
+        found.more.extend(lone(trial.crate, trial.folder, it, []) for it in rest)
+        for taken, texts in edits.batches(others, trial.folder):
+            found.more.append(Trial(trial.crate, trial.folder, taken, texts, paths(taken)))
+        return found
     for it in trial.given:
         line = refusal(trial, it, status, said)
         if line:

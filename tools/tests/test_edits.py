@@ -82,6 +82,15 @@ class Edits(unittest.TestCase):
         self.assertEqual(Edit("law", self.folder).refused_by, ["laws::held"])
         self.assertEqual(self.edit("one", ONE).refused_by, [])
 
+    def test_owner(self) -> None:
+        self.assertEqual(edits.owner_of("impl From<LogFault> for ReplayFault "), ("FromLogFault", "ReplayFault"))
+        head = "impl<R: Net<Listener = L> + Clock> Outside for HostDoors<R> "
+        self.assertEqual(edits.owner_of(head), ("Outside", "HostDoors"))
+        self.assertEqual(edits.owner_of("impl<T> Pages<T> "), ("Pages",))
+        self.assertEqual(edits.owner_of("pub trait Outside "), ("Outside",))
+        (one,) = edits.functions("impl<R: Net> Outside\n    for HostDoors<R> {\n    fn one() -> u8 { 1 }\n}\n")
+        self.assertEqual(one.owner.split("{")[0], "impl<R: Net> Outside for HostDoors<R> ")
+
     def test_path(self) -> None:
         paths = [edits.path_of(self.edit(name, pairs).functions()[0]) for name, pairs in (("one", ONE), ("two", TWO))]
         self.assertEqual(paths, ["LockShown::take", "lock::two"])
