@@ -88,12 +88,13 @@ def place(path: str, text: str, old: str) -> Function | None:
 
 
 def owner_of(head: str) -> tuple[str, ...]:
-    """The trait, with the types that it is given, and the type of the head of an `impl`; or the one of these there is."""
+    """The trait of the head of an `impl`, with the types that it is given, and the type; or the one that is there."""
     trait, _, type_of = without_own_parameters(head).rpartition(" for ")
     given = re.search(r"<(.*)>", trait)
     types = [it for it in re.findall(r"[A-Z]\w+", given[1] if given else "") if f"{it}:" not in head]
     words = re.findall(r"[A-Z]\w+", without_parameters(trait))[:1]
-    return (*("".join([it, *types]) for it in words), *re.findall(r"[A-Z]\w+", without_parameters(type_of)))
+    named = re.findall(r"[A-Z]\w+", without_parameters(type_of))
+    return (*("".join([it, *types]) for it in words), *named)
 
 
 def without_own_parameters(head: str) -> str:

@@ -150,8 +150,8 @@ class Lines(unittest.TestCase):
         changed = {"src/lock.rt": ""}
         self.assertIsNone(edits.unread("./proofs/lock/two/Answers.antt:1:2: error: `x` is not in scope\n", changed))
         self.assertIsNone(edits.unread("./specs/Held.antt:1:2: error: `held`: the types differ\n", changed))
-        scope, end = "specs/Held.antt:1:2: error: `held`: `x` is not in scope", "src/lock.rt:3:4: error: expected the end"
-        for said in scope, end:
+        scope = "specs/Held.antt:1:2: error: `held`: `x` is not in scope"
+        for said in scope, "src/lock.rt:3:4: error: expected the end":
             self.assertEqual(edits.unread(f"fn low::two: proved\n{said}\n", changed), said)
 
 
