@@ -29,7 +29,7 @@ use Rattle.descriptor_table.specs.Laws.{TableFollows}
 use Rattle.descriptor_table.specs.View.{view}
 use Rattle.call_turns.specs.Acting.{StandsChanged}
 use Rattle.call_turns.specs.Patience.{Waits}
-use Rattle.call_turns.specs.Store.{EndsTurn, IsDecided, Makes, Stands, Stored, locking_of, number_locked}
+use Rattle.call_turns.specs.Store.{EndsTurn, IsDecided, Performs, Stands, Stored, locking_of, number_locked}
 use Rattle.call_turns.specs.declared.patience.Locking.{Locking}
 use Rattle.call_turns.specs.declared.patience.TurnStart.TheVariants as start
 use Rattle.call_turns.proofs.Turning.{effect_by, effect_is, stands_same}
@@ -56,7 +56,7 @@ module _ (law : TableFollows) (h : Stored) (c : Call) (carried : Carried) (objec
       ∙ asks_nothing c _ _
 
   pub act_replied : (r : Reply) (new : Stored) (patience : ℕ) → EndsTurn carried h c (act_end.Reply r) new
-      → Makes patience carried h c (start.Ended (end.Reply r)) new
+      → Performs patience carried h c (start.Ended (end.Reply r)) new
   act_replied r new patience ends settings w same st = record {
     request = request_none w st;
     answer_is = ap as_end (ends settings w st).0;
@@ -65,7 +65,7 @@ module _ (law : TableFollows) (h : Stored) (c : Call) (carried : Carried) (objec
 
   pub act_waits : (moved : Moved) (e : TurnEnd) (new : Stored) (patience : ℕ)
       → EndsTurn carried h c (act_end.Waits moved) new → Waits patience moved carried e
-      → Makes patience carried h c (start.Ended e) new
+      → Performs patience carried h c (start.Ended e) new
   act_waits moved e new patience ends waits settings w same st = record {
     request = request_none w st;
     answer_is = ap as_end (ends settings w st).0 ∙ waits settings w.object same;
@@ -77,7 +77,7 @@ module _ (law : TableFollows) (h : Stored) (c : Call) (carried : Carried) (objec
 pub refuses : (law : TableFollows) (h : Stored) (c : Call) (carried : Carried) (e : Errno)
     → decided (view h.table) c carried.moved ≡ Err e
     → (number_locked h c carried ≡ None)
-    × ((patience : ℕ) → Makes patience carried h c (start.Ended (end.Reply (reply.Fail e))) h)
+    × ((patience : ℕ) → Performs patience carried h c (start.Ended (end.Reply (reply.Fail e))) h)
 refuses law h c carried e is = (
   ap (λ (d : Result Decision Errno). option_map (λ (x : Locking). x.object) (locking_of d)) is,
   λ patience settings w same st.
@@ -93,7 +93,8 @@ refuses law h c carried e is = (
 pub replies_alone : (law : TableFollows) (h : Stored) (c : Call) (carried : Carried) (r : Reply) (x : Change)
     (new : Stored)
     → decided (view h.table) c carried.moved ≡ Ok (decision.Replies r x) → StandsChanged h c x new
-    → (number_locked h c carried ≡ None) × ((patience : ℕ) → Makes patience carried h c (start.Ended (end.Reply r)) new)
+    → (number_locked h c carried ≡ None)
+    × ((patience : ℕ) → Performs patience carried h c (start.Ended (end.Reply r)) new)
 replies_alone law h c carried r x new is stands = (
   ap (λ (d : Result Decision Errno). option_map (λ (x : Locking). x.object) (locking_of d)) is,
   λ patience settings w same st.

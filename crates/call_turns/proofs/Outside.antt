@@ -51,7 +51,7 @@ use Rattle.descriptor_table.specs.declared.plan.Errand.{Errand}
 use Rattle.call_turns.specs.Acting.{StandsChanged}
 use Rattle.call_turns.specs.Errands.{TakesLocked, door_taken, object_found, waits_by}
 use Rattle.call_turns.specs.Patience.{EndsOutside, as_answer, ended, outside_ending, told_outside}
-use Rattle.call_turns.specs.Store.{IsDecided, Makes, Opens, Stands, Stored, at_port}
+use Rattle.call_turns.specs.Store.{IsDecided, Performs, Opens, Stands, Stored, at_port}
 use Rattle.call_turns.specs.declared.patience.Locking.{Locking}
 use Rattle.call_turns.specs.declared.patience.TurnStart.TheVariants as start
 use Rattle.call_turns.proofs.Standing.{number_known, used_number}
@@ -113,7 +113,7 @@ module _ (law : TableFollows) (h : Stored) (c : Call) (carried : Carried) where
       → keeps_table c ≡ false
       → ((w : World) → Stands h w → posix.effect_of w.object c carried ≡ Ok (asked_of (after w.object) c blocks))
       → ((w : World) → Stands h w → Stands new (world_with w (after w.object)))
-      → (patience : ℕ) → Makes patience carried h c (start.GoesOut (errand_of c blocks (Some x.object))) new
+      → (patience : ℕ) → Performs patience carried h c (start.GoesOut (errand_of c blocks (Some x.object))) new
   goes_by x after blocks new decided frees effect stands patience settings w same st = record {
     request = ap (posix.query_of c) (effect w st);
     door = locks_door w st x decided frees;
@@ -127,7 +127,7 @@ module _ (law : TableFollows) (h : Stored) (c : Call) (carried : Carried) where
 
   pub goes_asking : (object : ℕ) (blocks : Bool)
       → IsDecided h c carried.moved (record { object = object; deed = deed.Asks blocks }) → keeps_table c ≡ false
-      → (patience : ℕ) → Makes patience carried h c (start.GoesOut (errand_of c blocks (Some object))) h
+      → (patience : ℕ) → Performs patience carried h c (start.GoesOut (errand_of c blocks (Some object))) h
   goes_asking object blocks decided frees =
       goes_by (record { object = object; deed = deed.Asks blocks }) (λ s. s) blocks h decided frees
       (λ w st. effect_is law h w st c carried (record { object = object; deed = deed.Asks blocks }) decided)
@@ -136,7 +136,7 @@ module _ (law : TableFollows) (h : Stored) (c : Call) (carried : Carried) where
   pub goes_closing : (object n key : ℕ) (new : Stored)
       → IsDecided h c carried.moved (record { object = object; deed = deed.Closes n key }) → keeps_table c ≡ false
       → StandsChanged h c (change.Close n key) new
-      → (patience : ℕ) → Makes patience carried h c (start.GoesOut (errand_of c false (Some object))) new
+      → (patience : ℕ) → Performs patience carried h c (start.GoesOut (errand_of c false (Some object))) new
   goes_closing object n key new decided frees stands =
       goes_by (record { object = object; deed = deed.Closes n key })
       (λ s. changed s c (change_by (names_of h.table) (change.Close n key))) false new decided frees
@@ -192,7 +192,7 @@ pub goes_opening : (law : TableFollows) (h : Stored) (c : Call) (carried : Carri
     (listener : Option ℕ) (new : NewDescriptor)
     → IsDecided h c carried.moved (record { object = object; deed = deed.Opens blocks listener new })
     → keeps_table c ≡ true → TakesAlong (view h.table) c listener
-    → (patience : ℕ) → Makes patience carried h c (start.GoesOut (errand_of c blocks listener)) h
+    → (patience : ℕ) → Performs patience carried h c (start.GoesOut (errand_of c blocks listener)) h
 goes_opening law h c carried object blocks listener new decided keeps takes patience settings w same st =
     let effect = effect_is law h w st c carried (record { object = object; deed = deed.Opens blocks listener new })
     decided in

@@ -117,8 +117,8 @@ StartsIn settings w carried old c (start.GoesOut errand) new =
     GoesOut settings w carried old c errand new
 
 -- with this patience, and in whatever world they stood for
-abbrev pub Makes : ℕ → Carried → Stored → Call → TurnStart → Stored → Type 0
-Makes patience carried old c x new = (settings : Settings) (w : World)
+abbrev pub Performs : ℕ → Carried → Stored → Call → TurnStart → Stored → Type 0
+Performs patience carried old c x new = (settings : Settings) (w : World)
     → settings.patience ≡ patience → Stands old w → StartsIn settings w carried old c x new
 
 -- this was decided of the call, which moved so much before
@@ -130,7 +130,7 @@ IsDecided h c moved x = locking_at h c moved ≡ Some x
 abbrev pub ComesTo : Carried → Stored → Call → AtTable → Stored → Type 0
 ComesTo carried old c (at.Answers r) new =
     (number_locked old c carried ≡ None)
-    × ((patience : ℕ) → Makes patience carried old c (start.Ended (end.Reply r)) new)
+    × ((patience : ℕ) → Performs patience carried old c (start.Ended (end.Reply r)) new)
     × (reply_bytes r ≤ read_count c)
 ComesTo carried old c (at.Locks x) new =
     (number_locked old c carried ≡ Some x.object) × (x.object < limit.OBJECTS)

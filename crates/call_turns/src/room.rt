@@ -6,7 +6,7 @@ ghost use Rattle.posix_terms.specs.Outcomes.{fits};
 ghost use Rattle.call_turns.specs.Patience.{EndsOutside, turn_bytes};
 ghost use Rattle.call_turns.specs.Space.{HasSpaceFor, LeavesSpace, changed, no_space};
 ghost use Rattle.sequential_object.specs.Locked.{keeps_table};
-ghost use Rattle.call_turns.specs.Store.{IsDecided, KeepsStore, Makes};
+ghost use Rattle.call_turns.specs.Store.{IsDecided, KeepsStore, Performs};
 
 use crate::patience::{Locking, TurnStart, copied, end_outside};
 use crate::store::Store;
@@ -91,8 +91,8 @@ impl Room {
         }
     }
 
-    /// Makes a turn of a call, as [`Store::make`], with room for the bytes of its reply.
-    pub fn make(
+    /// Performs a turn of a call, as [`Store::perform`], with room for the bytes of its reply.
+    pub fn perform(
         &mut self,
         store: &mut Store,
         call: &Call,
@@ -104,13 +104,13 @@ impl Room {
         requires objects { store.old.table.made_objects < 2 ^ 127 }
         requires decided { IsDecided store.old call.now carried.moved locking }
         requires room { HasSpaceFor call.now self.old }
-        ensures makes { Makes patience carried store.old call.now result store.new }
+        ensures performs { Performs patience carried store.old call.now result store.new }
         ensures kept { KeepsStore (keeps_table call.now) result store.old store.new }
         ensures room { LeavesSpace result self.new }
         ensures births { (store.new.table.descriptions.made ≤ store.old.table.descriptions.made + 2)
             × (store.new.table.made_objects ≤ store.old.table.made_objects + 1) }
     {
-        store.make(call, locking, patience, carried, &mut self.told)
+        store.perform(call, locking, patience, carried, &mut self.told)
     }
 
     /// Ends a turn that went outside, as [`end_outside`], with room for the bytes that came.

@@ -16,7 +16,7 @@ ghost use Rattle.descriptor_table.specs.View.{view};
 ghost use Rattle.call_turns.specs.Acting.{IsInside, IsReady, Leaves, StandsChanged, acts_at};
 ghost use Rattle.call_turns.specs.Acting.{cleared, emptied};
 ghost use Rattle.call_turns.specs.Patience.{act_bytes};
-ghost use Rattle.call_turns.specs.Store.{ComesTo, EndsTurn, IsDecided, KeepsStore, Makes};
+ghost use Rattle.call_turns.specs.Store.{ComesTo, EndsTurn, IsDecided, KeepsStore, Performs};
 ghost use Rattle.call_turns.specs.Store.{UsesRoom, first_stored};
 
 use crate::acts::released_reply;
@@ -34,7 +34,7 @@ use std::mem::replace;
 pub struct Store {
     /// What descriptors, descriptions and names there are. It is public for `Table::made`, which says what the
     /// store asks of its caller. Whoever changes it otherwise than by the store's own functions may leave a store
-    /// that stands for no world; `Makes` then says nothing.
+    /// that stands for no world; `Performs` then says nothing.
     pub table: Table,
     pub(crate) bodies: Vec<Body>,
 
@@ -69,10 +69,10 @@ impl Store {
         })
     }
 
-    /// Makes the turn of a call that carries this, if the table alone answers it. Of any other call it
+    /// Performs the turn of a call that carries this, if the table alone answers it. Of any other call it
     /// returns what was decided of it, with the number of the object that it has to lock beside the
     /// table, and changes nothing.
-    pub fn settle_or_lock(&mut self, call: &Call, carried: Carried) -> AtTable
+    pub fn perform_or_lock(&mut self, call: &Call, carried: Carried) -> AtTable
         requires descriptions { self.old.table.descriptions.made < 2 ^ 127 }
         requires objects { self.old.table.made_objects < 2 ^ 127 }
         ensures comes { ComesTo carried self.old call.now result self.new }
@@ -92,8 +92,8 @@ impl Store {
         }
     }
 
-    /// Makes one turn of a call that carries this from its blocked turns, and took the lock of its
-    /// object: as it was decided by `settle_or_lock`, while the table was kept. A call that cannot
+    /// Performs one turn of a call that carries this from its blocked turns, and took the lock of its
+    /// object: as it was decided by `perform_or_lock`, while the table was kept. A call that cannot
     /// go on is blocked until it was for as many turns as its patience, and then fails with EINTR;
     /// where its description has O_NONBLOCK it fails at once with EAGAIN. A write that moved bytes
     /// of a pipe returns their count in place of either. A call that goes outside gets its errand,
@@ -105,7 +105,7 @@ impl Store {
     /// are. A read that is made here takes it, even where it has to wait, so its next turn needs
     /// another, and no reply brings more bytes than that. A call that goes outside leaves it as it
     /// was, for `end_outside`, and asks no more (`room`).
-    pub fn make(
+    pub fn perform(
         &mut self,
         call: &Call,
         locking: Locking,
@@ -117,7 +117,7 @@ impl Store {
         requires objects { self.old.table.made_objects < 2 ^ 127 }
         requires decided { IsDecided self.old call.now carried.moved locking }
         requires room { read_count call.now ≤ length room.old.items }
-        ensures makes { Makes patience carried self.old call.now result self.new }
+        ensures performs { Performs patience carried self.old call.now result self.new }
         ensures kept { KeepsStore (keeps_table call.now) result self.old self.new }
         ensures room { UsesRoom (read_count call.now) room.old.items room.new.items result }
         ensures births { (self.new.table.descriptions.made ≤ self.old.table.descriptions.made + 2)
@@ -176,7 +176,7 @@ impl Store {
         }
     }
 
-    // Makes a turn of a call that acts on the object that it locked, as it was decided.
+    // Performs a turn of a call that acts on the object that it locked, as it was decided.
     fn act(
         &mut self,
         call: &Call,
@@ -223,7 +223,7 @@ impl Store {
         }
     }
 
-    // Makes an act that reads or writes an object.
+    // Performs an act that reads or writes an object.
     fn act_on(&mut self, call: &Call, object: usize, act: Act, room: &mut Vec<u8>) -> ActEnd
         requires inside { object < limit.OBJECTS }
         requires ready { IsReady self.old.table (length room.old.items) act }

@@ -40,9 +40,9 @@ pub record IsBorn (t after : TableState) : Type 0 where
 -- a number that an object has was its own before, or was the next free one and the object is new;
 -- and a call makes one object and two descriptions at most
 pub record NumbersStay (t after : TableState) : Type 0 where
-  pub numbers : (node birth : ℕ) → slice_index_or after.objects node None ≡ Some birth
-      → (slice_index_or t.objects node None ≡ Some birth)
-      ⊎ ((free_object t ≡ Some node) × (birth ≡ t.made_objects))
+  pub numbers : (object birth : ℕ) → slice_index_or after.objects object None ≡ Some birth
+      → (slice_index_or t.objects object None ≡ Some birth)
+      ⊎ ((free_object t ≡ Some object) × (birth ≡ t.made_objects))
   pub objects : after.made_objects ≤ t.made_objects + 1
   pub born : (after.made_objects ≡ t.made_objects) ⊎ IsBorn t after
   pub descriptions : after.descriptions.made ≤ t.descriptions.made + 2

@@ -45,8 +45,8 @@ let_go t n key = record t {
 
 -- the number of an object that nothing refers to is free
 abbrev pub without_gone : TableState → ℕ → TableState
-without_gone t node =
-    if is_gone t node then record t { objects = slice_set t.objects node None }
+without_gone t object =
+    if is_gone t object then record t { objects = slice_set t.objects object None }
     else t
 
 -- number n is closed
@@ -72,37 +72,38 @@ unnamed t c = map.remove t.paths (components_of (path_of c))
 
 -- the names after a `rename`: the new path names the file, in the place of the old one
 abbrev pub renamed : TableState → Call → ℕ → PathMap
-renamed t c node = moved_name t.paths (old_path_of c) (path_of c) node
+renamed t c object = moved_name t.paths (old_path_of c) (path_of c) object
 
 -- a file lost a name, or none did
 abbrev pub without_lost : TableState → Option ℕ → TableState
 without_lost t None = t
-without_lost t (Some node) = without_gone t node
+without_lost t (Some object) = without_gone t object
 
 -- ## New objects and descriptors
 
 -- a new object that no path names
 abbrev pub with_object : TableState → ℕ → TableState
-with_object t node = record t {
-  objects = slice_set t.objects node (Some t.made_objects);
+with_object t object = record t {
+  objects = slice_set t.objects object (Some t.made_objects);
   made_objects = t.made_objects + 1;
 }
 
 -- a new file, which has this number and one name
 abbrev pub with_file : TableState → PathMap → ℕ → TableState
-with_file t paths node = record t {
+with_file t paths object = record t {
   paths = paths;
-  objects = slice_set t.objects node (Some t.made_objects);
+  objects = slice_set t.objects object (Some t.made_objects);
   made_objects = t.made_objects + 1;
 }
 
 -- number n refers to a new description of an end of an object, under this key
 abbrev pub opened : TableState → ℕ → ℕ → ℕ → End → Access → StatusFlags → TableState
-opened t n key node which access flags =
+opened t n key object which access flags =
     record t {
       descriptors = slice_set t.descriptors n (Some key);
       descriptions =
-          with_new t.descriptions key (new_description node which access flags t.descriptions.made);
+          with_new t.descriptions key
+          (new_description object which access flags t.descriptions.made);
     }
 
 -- the status flags with which a descriptor is opened
@@ -176,9 +177,9 @@ Refers t n key = (n < limit.DESCRIPTORS) × (key_at t (pos n) ≡ Some key)
 
 -- the next number of an object, which is free
 abbrev pub IsNextObject : TableState → ℕ → Type 0
-IsNextObject t node =
-    (node < limit.OBJECTS) × (slice_index_or t.objects node None ≡ None)
-    × (free_object t ≡ Some node)
+IsNextObject t object =
+    (object < limit.OBJECTS) × (slice_index_or t.objects object None ≡ None)
+    × (free_object t ≡ Some object)
 
 -- a path names nothing, and there is room for one more name
 abbrev pub IsFreePath : PathMap → List ℕ → Type 0
@@ -188,12 +189,12 @@ IsFreePath paths path =
 
 -- the old path names this file, and the new one is not too long
 abbrev pub CanMove : PathMap → List ℕ → List ℕ → ℕ → Type 0
-CanMove paths old_path new_path node =
-    NamesFile paths old_path node × (length new_path ≤ limit.PATH_BYTES)
+CanMove paths old_path new_path object =
+    NamesFile paths old_path object × (length new_path ≤ limit.PATH_BYTES)
 
 -- a name of a file is one of a file that is there
 abbrev pub NamesUsed : TableState → Node → Type 0
-NamesUsed t (FileNode node) = is_used t node ≡ true
+NamesUsed t (FileNode object) = is_used t object ≡ true
 NamesUsed t Directory = Unit {0}
 
 -- the object that is made next has two ends, at numbers that are free

@@ -58,8 +58,8 @@ pub record OffsetMoves (t : TableState) (key offset : ℕ) : Type 0 where
 
 -- an object that is there, or the one that is made next; so it has one of the numbers of objects
 abbrev pub IsKnownNumber : TableState → ℕ → Type 0
-IsKnownNumber t node =
-    (node < limit.OBJECTS) × ((is_used t node ≡ true) ⊎ (free_object t ≡ Some node))
+IsKnownNumber t object =
+    (object < limit.OBJECTS) × ((is_used t object ≡ true) ⊎ (free_object t ≡ Some object))
 
 -- all that holds of tables and of the states that they show: they decide alike, what a decision
 -- needs is there, and a new offset or content is shown too
@@ -77,7 +77,7 @@ pub record TableFollows : Type 0 where
       → (is_used t object ≡ true)
       × ((s : State) → Shows t s → is_of part.Only (content_of s (birth_at t object)) ≡ true)
   -- the next object has a number that is free, and so has a descriptor that is to be opened
-  pub next : (t : TableState) (node : ℕ) → free_object t ≡ Some node → IsNextObject t node
+  pub next : (t : TableState) (object : ℕ) → free_object t ≡ Some object → IsNextObject t object
   pub free : (t : TableState) (n : ℕ) → IsFree (view t) n → IsFreeNumber t n
   -- an act opens numbers of descriptors, and the object that is locked is there or is the next
   pub numbers : (t : TableState) (c : Call) (object : ℕ) (a : Act) → CanAct (view t) c object a
@@ -85,10 +85,10 @@ pub record TableFollows : Type 0 where
   pub known : (t : TableState) (c : Call) (object : ℕ) (d : Deed) → IsSound t
       → CanDo (view t) c object d → IsKnownNumber t object
   -- an end that an object has is open in the table exactly when it is in the state
-  pub ends : (t : TableState) (s : State) (node : ℕ) (which : End) → IsSound t
+  pub ends : (t : TableState) (s : State) (object : ℕ) (which : End) → IsSound t
       → AreSound t.descriptions
-      → Shows t s → is_used t node ≡ true → is_of which (content_of s (birth_at t node)) ≡ true
-      → posix.has_end s (birth_at t node) which ≡ is_open t node which
+      → Shows t s → is_used t object ≡ true → is_of which (content_of s (birth_at t object)) ≡ true
+      → posix.has_end s (birth_at t object) which ≡ is_open t object which
   pub offsets : (t : TableState) (key offset : ℕ) → IsSound t → AreSound t.descriptions
       → ContainsKey t.descriptions key → OffsetMoves t key offset
   -- what an object holds does not matter, as long as it has the same ends

@@ -20,7 +20,7 @@ use Rattle.descriptor_table.specs.Table.{TableState, described, key_at}
 
 -- the birth of the object with this number; a number that is free is for the object to come
 abbrev pub birth_at : TableState → ℕ → ℕ
-birth_at t node = unwrap_or (slice_index_or t.objects node None) t.made_objects
+birth_at t object = unwrap_or (slice_index_or t.objects object None) t.made_objects
 
 -- the birth of the description under this key
 abbrev pub birth_of : TableState → ℕ → ℕ
@@ -39,7 +39,7 @@ shown t d = record {
 
 -- what a path names, as the sequential object has it
 abbrev pub shown_node : TableState → Node → Node
-shown_node t (FileNode node) = FileNode (birth_at t node)
+shown_node t (FileNode object) = FileNode (birth_at t object)
 shown_node t Directory = Directory
 
 -- whether two doors are of one kind, and two listeners of one port
@@ -71,15 +71,15 @@ pub record Shows (t : TableState) (s : State) : Type 0 where
   pub paths : (path : List (List ℕ))
       → map.get s.paths path ≡ option_map (shown_node t) (map.get t.paths path)
   -- each object is there under its birth, and no other one
-  pub objects : (node birth : ℕ) → slice_index_or t.objects node None ≡ Some birth
+  pub objects : (object birth : ℕ) → slice_index_or t.objects object None ≡ Some birth
       → is_some (map.get s.objects birth) ≡ true
   pub numbered : (birth : ℕ) → is_some (map.get s.objects birth) ≡ true
-      → (node : ℕ) × (slice_index_or t.objects node None ≡ Some birth)
+      → (object : ℕ) × (slice_index_or t.objects object None ≡ Some birth)
   -- each has the ends that its descriptions are of, and what a path names is a file
   pub ends : (key : ℕ) (d : Description) → map.get t.descriptions.by_key key ≡ Some d
       → is_of d.«end» (content_of s (birth_at t d.node)) ≡ true
-  pub files : (path : List (List ℕ)) (node : ℕ) → map.get t.paths path ≡ Some (FileNode node)
-      → is_of part.Only (content_of s (birth_at t node)) ≡ true
+  pub files : (path : List (List ℕ)) (object : ℕ) → map.get t.paths path ≡ Some (FileNode object)
+      → is_of part.Only (content_of s (birth_at t object)) ≡ true
   pub next_description : s.next_description ≡ t.descriptions.made
   pub next_object : s.next_object ≡ t.made_objects
 

@@ -45,7 +45,7 @@ view t = record {
   names_full = nat_le limit.NAMES (map.len t.paths);
   has_entries = λ path. has_entries t.paths (components_of path);
   links = links_of t.paths;
-  is_open = λ node. not (is_closed t node);
+  is_open = λ object. not (is_closed t object);
   next = free_object t;
 }
 

@@ -272,8 +272,8 @@ impl Table {
         ensures closed { self.new ≡ closed self.old number key }
         ensures free { IsFreeNumber self.new number }
     {
-        if let Some(node) = self.let_go(number, key) {
-            self.free_if_gone(node);
+        if let Some(object) = self.let_go(number, key) {
+            self.free_if_gone(object);
         }
     }
 }

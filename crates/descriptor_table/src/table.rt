@@ -223,10 +223,10 @@ impl Table {
     }
 
     // Whether no description has an object.
-    pub(crate) fn is_closed(&self, node: usize) -> bool
-        ensures { result ≡ is_closed self.now node }
+    pub(crate) fn is_closed(&self, object: usize) -> bool
+        ensures { result ≡ is_closed self.now object }
     {
-        let (first, second) = self.ends(node);
+        let (first, second) = self.ends(object);
         first == 0 && second == 0
     }
 
@@ -264,69 +264,69 @@ impl Table {
     pub(crate) fn open_number(
         &mut self,
         number: usize,
-        node: usize,
+        object: usize,
         end: End,
         access: Access,
         flags: StatusFlags,
     ) -> usize
         requires free { IsFreeNumber self.old number }
         requires births { self.old.descriptions.made ≤ 2 ^ 127 }
-        requires there { is_used self.old node ≡ true }
+        requires there { is_used self.old object ≡ true }
         ensures fresh { fin.get self.old.descriptions.by_key result ≡ None }
-        ensures opened { self.new ≡ opened self.old number result node «end» access flags }
+        ensures opened { self.new ≡ opened self.old number result object «end» access flags }
     {
-        let key = self.descriptions.make(node, end, access, flags).unwrap();
+        let key = self.descriptions.make(object, end, access, flags).unwrap();
         self.descriptors[number] = Some(key);
         key
     }
 
     // The number of an object is free if nothing refers to it any more.
-    pub(crate) fn free_if_gone(&mut self, node: usize)
-        ensures { self.new ≡ without_gone self.old node }
+    pub(crate) fn free_if_gone(&mut self, object: usize)
+        ensures { self.new ≡ without_gone self.old object }
     {
-        if self.is_closed(node) && self.names.links(node) == 0 {
-            self.free_node(node);
+        if self.is_closed(object) && self.names.links(object) == 0 {
+            self.remove_object(object);
         }
     }
 
     // The number of an object is free.
     #[tactic(auto, using(crate::proofs::SoundLemmas::sound))]
-    fn free_node(&mut self, node: usize)
-        requires { is_gone self.old node ≡ true }
-        ensures { self.new ≡ record self.old { objects = slice_set self.old.objects node None } }
+    fn remove_object(&mut self, object: usize)
+        requires { is_gone self.old object ≡ true }
+        ensures { self.new ≡ record self.old { objects = slice_set self.old.objects object None } }
     {
         let slots = self.objects.as_slice();
-        if node < slots.len() {
-            self.objects[node] = None;
+        if object < slots.len() {
+            self.objects[object] = None;
         }
     }
 
     // A new file, which a path names, under a number that is free.
     #[tactic(auto, using(crate::proofs::SoundLemmas::sound))]
-    pub(crate) fn make_file(&mut self, path: &[u8], node: usize)
+    pub(crate) fn make_file(&mut self, path: &[u8], object: usize)
         requires births { self.old.made_objects < 2 ^ 127 }
         requires path { IsFreePath self.old.paths path.now }
-        requires next { IsNextObject self.old node }
+        requires next { IsNextObject self.old object }
         ensures made { self.new ≡ with_file self.old
-            (fin.insert self.old.paths (components_of path.now) (FileNode node)) node }
-        ensures there { is_used self.new node ≡ true }
+            (fin.insert self.old.paths (components_of path.now) (FileNode object)) object }
+        ensures there { is_used self.new object ≡ true }
     {
         let birth = self.made_objects;
-        self.names.insert(path, Node::File(node));
-        self.objects[node] = Some(birth);
+        self.names.insert(path, Node::File(object));
+        self.objects[object] = Some(birth);
         self.made_objects = birth + 1;
     }
 
     // A new object that no path names.
     #[tactic(auto, using(crate::proofs::SoundLemmas::sound))]
-    pub(crate) fn make_object(&mut self, node: usize)
+    pub(crate) fn make_object(&mut self, object: usize)
         requires births { self.old.made_objects < 2 ^ 127 }
-        requires next { IsNextObject self.old node }
-        ensures made { self.new ≡ with_object self.old node }
-        ensures there { is_used self.new node ≡ true }
+        requires next { IsNextObject self.old object }
+        ensures made { self.new ≡ with_object self.old object }
+        ensures there { is_used self.new object ≡ true }
     {
         let birth = self.made_objects;
-        self.objects[node] = Some(birth);
+        self.objects[object] = Some(birth);
         self.made_objects = birth + 1;
     }
 
@@ -354,11 +354,12 @@ impl Table {
 
     // A name of a file in the place of another one.
     #[tactic(auto, using(crate::proofs::SoundLemmas::sound))]
-    pub(crate) fn move_name(&mut self, from: &[u8], to: &[u8], node: usize)
-        requires { CanMove self.old.paths from.now to.now node }
-        ensures { self.new ≡ with_paths self.old (moved_name self.old.paths from.now to.now node) }
+    pub(crate) fn move_name(&mut self, from: &[u8], to: &[u8], object: usize)
+        requires { CanMove self.old.paths from.now to.now object }
+        ensures { self.new
+            ≡ with_paths self.old (moved_name self.old.paths from.now to.now object) }
     {
-        self.names.move_name(from, to, node);
+        self.names.move_name(from, to, object);
     }
 
     // A name less.

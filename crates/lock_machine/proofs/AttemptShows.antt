@@ -297,7 +297,7 @@ pub grant_shows : (terms : Conditions) (w : Whole) (s : State) (turn : Turn) (ca
     new → Granted_now terms w s turn call carried way object cost new
 grant_shows terms w s turn call carried way object cost l new h few room way_is alone g =
     started_shows terms w s turn call carried way object cost new g.start h few room way_is alone
-    (g.makes terms.settings s.world (ap (λ (x : Settings). x.patience) h.settings) h.world) g.thread g.rows
+    (g.performs terms.settings s.world (ap (λ (x : Settings). x.patience) h.settings) h.world) g.thread g.rows
 
 -- the other threads see only that there is a row more
 pub others_granted : (terms : Conditions) (w : Whole) (s : State) (i : ℕ) (job : Job) (t : Thread) (u : lock.Thread)

@@ -4,7 +4,7 @@ use Rattle.std.proofs.Common.{sym, ap₂, ◌∙◌, subst}
 use Rattle.std.proofs.lemmas.Option.{none-some, same_Some}
 use Rattle.std.specs.Prelude.{IfOk, Result, Ok, Err}
 use Rattle.std.specs.declared.alloc.AllocError.{AllocError}
-use Rattle.call_turns.specs.Store.{Makes, Stored, number_locked}
+use Rattle.call_turns.specs.Store.{Performs, Stored, number_locked}
 use Rattle.call_turns.specs.declared.patience.TurnStart.{TurnStart}
 use Rattle.call_turns.specs.declared.patience.TurnStart.TheVariants as start
 use Rattle.sequential_object.specs.Locked.{keeps_table}
@@ -36,7 +36,7 @@ regranted : (patience : ℕ) (turn : Turn) (call : Call) (carried : Carried) (ob
 regranted patience turn call carried object p old new g =
     record {
       start = g.start;
-      makes = g.makes;
+      performs = g.performs;
       thread = g.thread
           ∙ started_any (length old.rows) object call carried g.start p old.thread;
       lock = g.lock;
@@ -54,14 +54,14 @@ replanned patience (Some object) turn call carried p old new g = g
 -- a turn that was made, and has its row then
 pub seated : (patience : ℕ) (turn : Turn) (call : Call) (carried : Carried) (object : Option ℕ) (x : TurnStart)
     (t : Thread) (p : Phase) (lock : DetLock) (old new : Stored) (rows later_rows : List HistoryRow)
-    → Makes patience carried old call x new → p ≡ phase_started (length rows) object call carried x
+    → Performs patience carried old call x new → p ≡ phase_started (length rows) object call carried x
     → later_rows ≡ rows ++ granted_row turn call ∷ []
     → Grants patience turn call carried object (parts t lock old rows)
     (parts (record t { phase = p }) lock new later_rows)
-seated patience turn call carried object x t p lock old new rows later_rows makes phase_is rows_are =
+seated patience turn call carried object x t p lock old new rows later_rows performs phase_is rows_are =
     record {
       start = x;
-      makes = makes;
+      performs = performs;
       thread = ap (λ (q : Phase). let u : Thread = record t { phase = q } in u) phase_is;
       lock = refl;
       rows = rows_are;

@@ -12,7 +12,7 @@ use Rattle.det_mutex.specs.Attempt.{freed, held, takes}
 use Rattle.det_mutex.specs.declared.lock.DetLock.{DetLock}
 use Rattle.lock_model.specs.Machine.{is_number}
 use Rattle.lock_machine.specs.Held.{end_held, turn_started, phase_behind, told_as}
-use Rattle.call_turns.specs.Store.{Makes, Stored, number_locked}
+use Rattle.call_turns.specs.Store.{Performs, Stored, number_locked}
 use Rattle.lock_machine.specs.Threads.{Thread}
 use Rattle.sequential_object.specs.declared.turn_end.TurnEnd.{TurnEnd}
 use Rattle.sequential_object.specs.Step.{Carried}
@@ -82,7 +82,7 @@ granted_row turn call = record { call = call; turn = turn; outcome = None; answe
 pub record Grants (patience : ℕ) (turn : Turn) (call : Call) (carried : Carried) (object : Option ℕ)
     (old new : Parts) : Type 0 where
   pub start : TurnStart
-  pub makes : Makes patience carried old.table call start new.table
+  pub performs : Performs patience carried old.table call start new.table
   pub thread : new.thread ≡ turn_started (length old.rows) object call carried start old.thread
   pub lock : new.lock ≡ old.lock
   pub rows : new.rows ≡ old.rows ++ granted_row turn call ∷ []

@@ -192,7 +192,7 @@ fn plan(
         shared.new.wanted }
     ensures lock { shared.new.lock ≡ shared.old.lock }
 {
-    match shared.store.settle_or_lock(&call, carried) {
+    match shared.store.perform_or_lock(&call, carried) {
         AtTable::Answers(reply) => {
             let row = shared.rows.len();
             shared.rows.push_reserved(granted_row(turn, call));
@@ -324,7 +324,7 @@ fn taken_object(table: DetLock, object: DetLock, i: usize, clock: u64) -> Option
     }
 }
 
-// A call that carries this gets its turn and a row of the history, and is made as it was decided.
+// A call that carries this gets its turn and a row of the history, and is performed as it was decided.
 fn grant(
     patience: u32,
     turn: Turn,
@@ -353,7 +353,7 @@ fn grant(
 {
     let start = thread
         .room
-        .make(&mut shared.store, &call, locking, patience, carried);
+        .perform(&mut shared.store, &call, locking, patience, carried);
     thread.phase = seat(turn, call, carried, Some(object), start, &mut shared.rows);
 }
 

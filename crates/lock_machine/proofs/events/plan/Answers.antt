@@ -1,5 +1,5 @@
 use Rattle.std.proofs.Common.{◌≡◌, ℕ, None, [], ◌∷◌, ◌++◌, length, ap, rules}
-use Rattle.call_turns.specs.Store.{Makes, number_locked}
+use Rattle.call_turns.specs.Store.{Performs, number_locked}
 use Rattle.call_turns.specs.declared.patience.TurnStart.TheVariants as start
 use Rattle.sequential_object.specs.declared.turn_end.TurnEnd.TheVariants as end
 use Rattle.lock_machine.specs.Events.{granted_row}
@@ -13,9 +13,9 @@ returns-in-Answers-clause-event c =
     let patience = c.args.patience in
     let thread = c.args.thread.now in
     let shared = c.args.shared.now in
-    let new = c.settle_or_lock.new.self in
+    let new = c.perform_or_lock.new.self in
     let none : number_locked shared.store c.args.call c.args.carried ≡ None = search rules in
-    let makes : (patience : ℕ) → Makes patience c.args.carried shared.store c.args.call
+    let performs : (patience : ℕ) → Performs patience c.args.carried shared.store c.args.call
     (start.Ended (end.Reply c.in-Answers.reply)) new = search rules in
     let reply = c.in-Answers.reply in
     let row : c.len-row.result ≡ length shared.rows.items = search rules in
@@ -26,4 +26,4 @@ returns-in-Answers-clause-event c =
     planned_none patience (number_locked shared.store c.args.call c.args.carried) c.args.turn c.args.call c.args.carried
     _ _ none
     (seated patience c.args.turn c.args.call c.args.carried None (start.Ended (end.Reply reply)) (timed thread clock) _
-    shared.lock shared.store new shared.rows.items _ (makes patience) seat rows)
+    shared.lock shared.store new shared.rows.items _ (performs patience) seat rows)

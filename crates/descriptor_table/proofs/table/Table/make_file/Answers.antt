@@ -14,8 +14,8 @@ invariant_of-self c =
       objects = c.self.inside.objects;
       made_objects = c.self.inside.made_objects;
     } in
-    let free : slot before.objects c.args.node ≡ None = rw (← c.self.view_is) at c.requires.next.1 in
-    let inside : c.args.node < length before.objects =
+    let free : slot before.objects c.args.object ≡ None = rw (← c.self.view_is) at c.requires.next.1 in
+    let inside : c.args.object < length before.objects =
     omega (arith, c.requires.next.0, c.self.invariant.object_numbers) in
-    rw c.insert.ensures (sound-with_file before (components_of c.args.path.now) c.args.node inside free
+    rw c.insert.ensures (sound-with_file before (components_of c.args.path.now) c.args.object inside free
     c.self.invariant)

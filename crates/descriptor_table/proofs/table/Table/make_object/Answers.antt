@@ -13,5 +13,5 @@ invariant_of-self c =
       objects = c.self.inside.objects;
       made_objects = c.self.inside.made_objects;
     } in
-    let free : slot before.objects c.args.node ≡ None = rw (← c.self.view_is) at c.requires.next.1 in
-    sound-with_object before c.args.node c.requires.next.0 free c.self.invariant
+    let free : slot before.objects c.args.object ≡ None = rw (← c.self.view_is) at c.requires.next.1 in
+    sound-with_object before c.args.object c.requires.next.0 free c.self.invariant

@@ -17,7 +17,7 @@ invariant_of-self c =
       made_objects = c.self.inside.made_objects;
     } in
     let old = components_of c.args.from.now in
-    let its : fin.get before.paths old ≡ Some (FileNode c.args.node) =
+    let its : fin.get before.paths old ≡ Some (FileNode c.args.object) =
     rw (← c.self.view_is) at c.requires.0 in
     rw c.move_name.ensures
-    (sound-moved before old (components_of c.args.to.now) c.args.node its c.self.invariant)
+    (sound-moved before old (components_of c.args.to.now) c.args.object its c.self.invariant)

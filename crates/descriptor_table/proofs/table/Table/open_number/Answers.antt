@@ -29,11 +29,11 @@ invariant_of-self c =
       made_objects = c.self.inside.made_objects;
     } in
     let key = c.unwrap-key.result in
-    let new = new_description c.args.node c.args.«end» c.args.access c.args.flags before.descriptions.made in
+    let new = new_description c.args.object c.args.«end» c.args.access c.args.flags before.descriptions.made in
     let free : slice_index_or before.descriptors c.args.number None ≡ None =
     rw (← c.self.view_is) at c.requires.free.1 in
     let fresh : fin.get before.descriptions.by_key key ≡ None = rw c.unwrap-key.ensures at c.make.ensures.free in
-    let there : is_used before c.args.node ≡ true = rw (← c.self.view_is) at c.requires.there in
+    let there : is_used before c.args.object ≡ true = rw (← c.self.view_is) at c.requires.there in
     let made : c.make.new.self ≡ with_new before.descriptions key new =
     rw c.unwrap-key.ensures at c.make.ensures.made in
     rw made (sound-opened before c.args.number key new c.self.invariant c.requires.free.0 free fresh refl there)

@@ -3,7 +3,7 @@ use Rattle.sequential_object.specs.Decided.{decided}
 use Rattle.descriptor_table.specs.View.{view}
 use Rattle.call_turns.specs.Store.{Stored}
 use Rattle.call_turns.proofs.Making.{refuses}
-use Rattle.call_turns.proofs.store.Store.settle_or_lock.Goals as goal
+use Rattle.call_turns.proofs.store.Store.perform_or_lock.Goals as goal
 
 pub returns-in-Err-clause-comes : goal.returns-in-Err-clause-comes
 returns-in-Err-clause-comes c =

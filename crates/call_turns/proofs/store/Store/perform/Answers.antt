@@ -10,7 +10,7 @@ use Rattle.call_turns.specs.Store.{EndsTurn, IsDecided, Stored}
 use Rattle.call_turns.proofs.Making.{act_replied, act_waits}
 use Rattle.call_turns.proofs.Outside.{goes_asking, goes_closing, goes_opening}
 use Rattle.call_turns.proofs.Turning.{can_of, decided_by}
-use Rattle.call_turns.proofs.store.Store.make.Goals as goal
+use Rattle.call_turns.proofs.store.Store.perform.Goals as goal
 
 pub act-requires-clause-can : goal.act-requires-clause-can
 act-requires-clause-can c =
@@ -22,8 +22,8 @@ act-requires-clause-can c =
     (can_of c.table_follows_step.ensures.follows h c.args.call.now c.args.carried.moved c.args.locking sound all
     c.requires.decided)
 
-pub returns-in-Reply-clause-makes : goal.returns-in-Reply-clause-makes
-returns-in-Reply-clause-makes c =
+pub returns-in-Reply-clause-performs : goal.returns-in-Reply-clause-performs
+returns-in-Reply-clause-performs c =
     let h : Stored = c.args.self.now in
     let decided : IsDecided h c.args.call.now c.args.carried.moved
     (record { object = c.args.locking.object; deed = deed.Acts c.in-Acts.act c.in-Acts.change }) =
@@ -34,8 +34,8 @@ returns-in-Reply-clause-makes c =
     (subst (λ (e : ActEnd). EndsTurn c.args.carried h c.args.call.now e c.act.new.self) c.in-Reply.is
     c.act.ensures.ends)
 
-pub returns-in-Waits-clause-makes : goal.returns-in-Waits-clause-makes
-returns-in-Waits-clause-makes c =
+pub returns-in-Waits-clause-performs : goal.returns-in-Waits-clause-performs
+returns-in-Waits-clause-performs c =
     let h : Stored = c.args.self.now in
     let decided : IsDecided h c.args.call.now c.args.carried.moved
     (record { object = c.args.locking.object; deed = deed.Acts c.in-Acts.act c.in-Acts.change }) =
@@ -46,8 +46,8 @@ returns-in-Waits-clause-makes c =
     (subst (λ (e : ActEnd). EndsTurn c.args.carried h c.args.call.now e c.act.new.self) c.in-Waits.is
     c.act.ensures.ends) c.blocked.ensures.waits
 
-pub returns-in-Asks-clause-makes : goal.returns-in-Asks-clause-makes
-returns-in-Asks-clause-makes c =
+pub returns-in-Asks-clause-performs : goal.returns-in-Asks-clause-performs
+returns-in-Asks-clause-performs c =
     let h : Stored = c.args.self.now in
     let law = c.table_follows_step.ensures.follows in
     let sound : IsSound h.table = search rules in
@@ -62,8 +62,8 @@ returns-in-Asks-clause-makes c =
     rw c.errand_of.ensures (goes_asking law h c.args.call.now c.args.carried c.args.locking.object c.in-Asks.blocks
     decided can.2 c.args.patience)
 
-pub returns-in-Closes-clause-makes : goal.returns-in-Closes-clause-makes
-returns-in-Closes-clause-makes c =
+pub returns-in-Closes-clause-performs : goal.returns-in-Closes-clause-performs
+returns-in-Closes-clause-performs c =
     let h : Stored = c.args.self.now in
     let law = c.table_follows_step.ensures.follows in
     let sound : IsSound h.table = search rules in
@@ -93,8 +93,8 @@ returns-in-Closes-clause-room c =
     (record { object = c.args.locking.object; deed = does }) sound all decided in
     rw c.errand_of-in-Closes.ensures (refl, can.2)
 
-pub returns-in-Opens-clause-makes : goal.returns-in-Opens-clause-makes
-returns-in-Opens-clause-makes c =
+pub returns-in-Opens-clause-performs : goal.returns-in-Opens-clause-performs
+returns-in-Opens-clause-performs c =
     let h : Stored = c.args.self.now in
     let law = c.table_follows_step.ensures.follows in
     let sound : IsSound h.table = search rules in
