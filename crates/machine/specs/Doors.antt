@@ -63,16 +63,16 @@ opens_door out.Accept = true
 opens_door k = false
 
 -- the second holds exactly when the first does
-abbrev pub just_where : Bool → Bool → Bool
-just_where true b = b
-just_where false b = not b
+abbrev pub exactly_where : Bool → Bool → Bool
+exactly_where true b = b
+exactly_where false b = not b
 
 -- the outcome fits what was asked; with it comes back the door that went out, unless it was closed,
 -- and a new one where one was opened
 abbrev pub is_answer_to : Errand → Outcome → Bool → Bool → Bool
 is_answer_to e o old new =
     fits e.kind e.asked o
-    && (just_where old (brings_back e.kind) && just_where new (opens_door e.kind && is_ok o))
+    && (exactly_where old (brings_back e.kind) && exactly_where new (opens_door e.kind && is_ok o))
 
 -- of a thread that is outside
 abbrev pub is_answer : Phase → Outcome → Bool → Bool → Bool

@@ -1,7 +1,7 @@
 ghost use Rattle.std.specs.Prelude.{◌≡◌, ◌<◌, IfOk, length};
 ghost use Rattle.lock_machine.specs.Refusals.{phase_at};
 ghost use Rattle.machine.specs.Doors.{brings_back, is_answer, is_answer_to, is_ok};
-ghost use Rattle.machine.specs.Doors.{just_where, opens_door};
+ghost use Rattle.machine.specs.Doors.{exactly_where, opens_door};
 ghost use Rattle.machine.specs.Requests.{IsOutsideTurn, IsRequest, awaited, out_of};
 
 use crate::machine::Machine;
@@ -81,12 +81,12 @@ fn is_answer_to(errand: Errand, outcome: &Outcome, back: bool, opened: bool) -> 
     ensures { result ≡ is_answer_to errand outcome.now back opened }
 {
     outcome.fits(errand.kind, errand.asked)
-        && (just_where(back, brings_back(errand.kind))
-            && just_where(opened, opens_door(errand.kind) && is_ok(outcome)))
+        && (exactly_where(back, brings_back(errand.kind))
+            && exactly_where(opened, opens_door(errand.kind) && is_ok(outcome)))
 }
 
-fn just_where(one: bool, other: bool) -> bool
-    ensures { result ≡ just_where one other }
+fn exactly_where(one: bool, other: bool) -> bool
+    ensures { result ≡ exactly_where one other }
 {
     if one { other } else { !other }
 }
