@@ -41,6 +41,16 @@ class Runs(unittest.TestCase):
         self.assertEqual(out.split("\n")[0], "0 0 open number 0")
         self.assertEqual(out.split("\n")[-2], "end")
 
+    def test_the_clocks_of_two_openers(self) -> None:
+        run = model.Run(Log(HEADER), ["open /a rw create\n", "open /a rw create\n"])
+        self.assertEqual([it.clocks for it in run.threads], [[(1, 2, 5)], [(1, 5, 8)]])
+
+    def test_an_end_before_the_last_line_ends_the_thread(self) -> None:
+        text = "open /a rw create\nend\nopen /b rw create\n"
+        run = model.Run(Log(HEADER), [text, "open /c rw create\n"])
+        self.assertEqual(([len(it.rows) for it in run.threads], run.stop), ([1, 1], None))
+        self.assertFalse(explored.is_cut_off(text, ["open number 0"]))
+
     def test_what_is_asked_outside_stops_at_the_end_of_the_log(self) -> None:
         status, out, _ = model.replayed(HEADER, ["host_open a r\n", "pipe\n"])
         self.assertEqual((status, out.split("\n")[-2]), (1, "stop end of log 0"))

@@ -48,7 +48,8 @@ impl Driver {
 
     // Makes the events of the plain schedule, to its end, or until the outcome of a thread does not
     // answer, which is returned. Once each thread has gone on as far as it can, only one that made an
-    // attempt can go on again. `watch` is shown each of these.
+    // attempt can go on again. `watch` is shown each event
+    // but the attempts that fail.
     pub fn run<W: WatchesRun>(
         &mut self,
         alloc: Global,
@@ -60,16 +61,16 @@ impl Driver {
     {
         laws();
         for i in 0..self.players.len() {
-            if self.go_on(alloc, i)? {
+            if self.go_on(alloc, i, watch)? {
                 return Ok(Some(i));
             }
         }
         loop {
-            let Some(i) = self.attempt_next()? else {
+            let Some(i) = self.attempt_next(watch)? else {
                 return Ok(None);
             };
             watch.reached(self.machine.rows(), self.log.records());
-            if self.go_on(alloc, i)? {
+            if self.go_on(alloc, i, watch)? {
                 return Ok(Some(i));
             }
         }
@@ -77,7 +78,12 @@ impl Driver {
 
     // Thread i makes its events that need no turn, as far as it can, and returns whether it
     // diverges then. The threads before it can make none.
-    fn go_on(&mut self, alloc: Global, i: usize) -> Result<bool, AllocError>
+    fn go_on<W: WatchesRun>(
+        &mut self,
+        alloc: Global,
+        i: usize,
+        watch: &mut W,
+    ) -> Result<bool, AllocError>
         requires inside { i < length self.old.players.items }
         requires rests { (input : Inputs) × (n : ℕ) × (i ≤ n)
             × RestsBut input n i (played_of self.old) }
@@ -88,7 +94,7 @@ impl Driver {
         laws();
         loop {
             match self.advance(alloc, i)? {
-                Progress::Moves => {}
+                Progress::Moves => watch.moved(i, self.machine.phase(i), self.machine.clock(i)),
                 Progress::Diverges => return Ok(true),
                 Progress::Stays => return Ok(false),
             }
@@ -99,7 +105,7 @@ impl Driver {
     // one is made by the thread that has the turn then. Returns that thread, if there is one and it
     // could.
     #[inline(always)]
-    fn attempt_next(&mut self) -> Result<Option<usize>, AllocError>
+    fn attempt_next<W: WatchesRun>(&mut self, watch: &mut W) -> Result<Option<usize>, AllocError>
         ensures event { IfOk result (λ made. AttemptsNext made (played_of self.old)
             (played_of self.new)) }
         ensures count { length self.new.players.items ≡ length self.old.players.items }
@@ -108,6 +114,7 @@ impl Driver {
         let Some(i) = self.machine.skip_failures() else {
             return Ok(None);
         };
+        watch.attempts(i, self.machine.clock(i));
         if self.attempt(i)? {
             Ok(Some(i))
         } else {

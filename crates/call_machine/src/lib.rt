@@ -7,7 +7,7 @@
 //! answer, or at a full clock. By the contract its history is legal, its turns rise, and the log
 //! covers it; by `plain_runs_agree` there is one plain run of given scripts, outcomes and settings.
 //! A [`PlainFault`] says why there was no run: wrong numbers, wrong settings or no memory.
-//! [`plain_run_watched`] also shows a [`WatchesRun`] how far the run has come. The machine for a
+//! [`plain_run_watched`] also shows the run to a [`WatchesRun`] while it goes on. The machine for a
 //! driver of your own is here too, as [`Machine`].
 //!
 //! ```rust

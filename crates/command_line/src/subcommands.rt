@@ -558,13 +558,14 @@ and dark, and nothing is loaded from elsewhere. Each thread is a lane, and the l
 right, at the same place in both runs. It is cut where nothing begins or ends for more than 8 clocks. Each call
 that was answered is a box:
   where it begins   the first turn that the call was granted
-  where it ends     4 clocks after the turn of its answer, or where the next call of its thread begins
+  where it ends     the clock at which it was answered
   its colour        blue in memory, green with an outcome from outside, red where it failed
-  hatched           the time for which it waited: it was granted turns, and was blocked
-  a triangle        an outcome from outside came: the number is that of its record among those of its thread
+  hatched           the time for which it waited: it was blocked, or attempts at its object's lock failed
+  hatched before    the time since its thread asked for it, in which attempts at the table's lock failed
+  a triangle        the last outcome of the call from outside came: the number of its record in its thread
   a thick edge      the first row that differs, of two runs: the same one as by detio compare
-  the line before   work of its thread, an outcome that was waited for, or attempts at a lock that failed
-The pointer on a box shows its call, its reply, its row, its line and its turns. Below are the same rows as
+  a line            work of the thread between two calls
+The pointer on a box shows its call, its reply, its row, its line and its clocks. Below are the same rows as
 tables.
 
 With --trace a trace of the first run is written to a new file, in the trace event format, which is JSON.

@@ -49,7 +49,7 @@ mod show;
 mod told;
 mod upgrade;
 
-pub use call_machine::{NoWatch, WatchesRun};
+pub use call_machine::{NoWatch, Phase, WatchesRun};
 pub use command_inputs::{DEFAULTS, RunOptions, View, settings_of};
 pub use command_texts::{
     LARGEST_FILE, Source, SourceFault, TextReader, cannot_write, no_memory, print, read_once,

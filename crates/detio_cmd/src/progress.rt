@@ -1,4 +1,4 @@
-use commands::WatchesRun;
+use commands::{Phase, WatchesRun};
 use explore_commands::ReportsProgress;
 use posix_terms::PackedRow;
 use std::fs;
@@ -94,6 +94,8 @@ impl WatchesRun for RunLine<'_> {
         self.records = records;
     }
 
+    fn attempts(&mut self, _thread: usize, _clock: u64) {}
+
     fn reached(&mut self, rows: &[PackedRow], came: u32) {
         self.left = self.left.saturating_sub(1);
         if self.left > 0 {
@@ -111,6 +113,8 @@ impl WatchesRun for RunLine<'_> {
             eprint!(self.line.rt; "\r{turns} turns, clock {clock}, {came} of {of} records\u{1b}[K")
         };
     }
+
+    fn moved(&mut self, _thread: usize, _phase: &Phase, _clock: u64) {}
 
     fn ended(&mut self) {
         self.line.clear();

@@ -8,6 +8,7 @@ use Rattle.comparator.specs.Comparison.{IsVerdictBy}
 use Rattle.comparator.specs.declared.verdict.Verdict.{Verdict}
 use Rattle.comparator.specs.declared.verdict.Verdict.TheVariants as verdicts
 use Rattle.commands.specs.declared.ran.Run.{Run}
+use Rattle.run_pictures.specs.Drawn.{calls_of}
 use Rattle.run_pictures.specs.Page.{IsPage}
 use Rattle.run_pictures.specs.Trace.{IsTrace}
 use Rattle.run_pictures.specs.declared.drawn.DrawnRun.{DrawnRun}
@@ -24,7 +25,7 @@ IsPageIf false title runs differs page = page ≡ None
 
 -- the trace of the first of these runs is there, if it is asked for
 abbrev pub IsTraceIf : Bool → List DrawnRun → Option (List ℕ) → Type 0
-IsTraceIf true (run ∷ runs) (Some trace) = IsTrace run.calls.items trace
+IsTraceIf true (run ∷ runs) (Some trace) = IsTrace (calls_of run.calls.items) trace
 IsTraceIf true (run ∷ runs) None = ⊥
 IsTraceIf true [] trace = trace ≡ None
 IsTraceIf false runs trace = trace ≡ None
@@ -40,7 +41,8 @@ ArePictures options title runs differs (draws.Fault printed) = ⊥
 abbrev pub IsDrawn : List (List ℕ) → List ℕ → Run → DrawnRun → Type 0
 IsDrawn texts name run drawn =
     (drawn.name.now ≡ name) × (drawn.threads ≡ length run.transcripts)
-    × (map seen drawn.calls.items ≡ answered_calls 0 texts run.history run.transcripts)
+    × (map seen (calls_of drawn.calls.items)
+    ≡ answered_calls 0 texts run.history run.transcripts)
     × (drawn.stop ≡ run.stop)
 
 -- what is drawn of one run

@@ -6,7 +6,7 @@ ghost use Rattle.draw_commands.specs.Draws.{SecondDraws, TextsDraw, TwoDraw, pla
 ghost use Rattle.draw_commands.specs.Runs.{PlainComes};
 
 use crate::pictures::{DrawOptions, Drawn, NamedRun, one_drawn, two_drawn};
-use crate::running::{log_ran, plain_ran};
+use crate::running::{Watched, log_ran, plain_ran};
 use crate::titles::title_of;
 use command_inputs::{SourceTexts, ToReplay, source_texts, to_replay};
 use command_texts::{ReadFault, Source, TextReader, cannot_read, read_text};
@@ -46,8 +46,8 @@ fn plain_drawn(
     ensures { IfOk result (
         TextsDraw (PlainComes settings) options title.now texts.now plain_name) }
 {
-    let ran = plain_ran(alloc, settings, texts)?;
-    ran_drawn(alloc, options, title, texts, "the plain run", ran)
+    let watched = plain_ran(alloc, settings, texts)?;
+    ran_drawn(alloc, options, title, texts, "the plain run", watched)
 }
 
 /// What is drawn of the replay of a log with scripts. The first fault counts: the number of
@@ -83,8 +83,8 @@ fn log_drawn(
 ) -> Result<Drawn, AllocError>
     ensures { IfOk result (TextsDraw (RunRan log.now) options title.now texts.now path.now) }
 {
-    let ran = log_ran(alloc, log.as_slice(), texts)?;
-    ran_drawn(alloc, options, title, texts, path, ran)
+    let watched = log_ran(alloc, log.as_slice(), texts)?;
+    ran_drawn(alloc, options, title, texts, path, watched)
 }
 
 // What is drawn of what came of a run, under this name.
@@ -94,12 +94,20 @@ fn ran_drawn(
     title: &[u8],
     texts: &[Bytes],
     name: &str,
-    ran: Ran,
+    watched: Watched,
 ) -> Result<Drawn, AllocError>
-    ensures { IfOk result (RanDraws options title.now texts.now name.now ran) }
+    ensures { IfOk result (RanDraws options title.now texts.now name.now watched.ran) }
 {
+    let Watched { ran, clocks } = watched;
     match ran {
-        Ran::Run(run) => one_drawn(alloc, options, title, texts, NamedRun { name, run: &run }),
+        Ran::Run(run) => {
+            let named = NamedRun {
+                name,
+                run: &run,
+                clocks: &clocks,
+            };
+            one_drawn(alloc, options, title, texts, named)
+        }
         Ran::Fault(printed) => Ok(Drawn::Fault(printed)),
     }
 }
@@ -185,11 +193,13 @@ fn logs_drawn(
         (log.entry.path.now, log.entry.text.now)
         (other.entry.path.now, other.entry.text.now)) }
 {
-    match log_ran(alloc, log.text, texts)? {
+    let Watched { ran, clocks } = log_ran(alloc, log.text, texts)?;
+    match ran {
         Ran::Run(run) => {
             let first = NamedRun {
                 name: log.path,
                 run: &run,
+                clocks: &clocks,
             };
             second_drawn(alloc, options, title, texts, first, other)
         }
@@ -211,11 +221,13 @@ fn second_drawn(
         (first.entry.name.now, first.entry.run.now)
         (other.entry.path.now, other.entry.text.now)) }
 {
-    match log_ran(alloc, other.text, texts)? {
+    let Watched { ran, clocks } = log_ran(alloc, other.text, texts)?;
+    match ran {
         Ran::Run(run) => {
             let second = NamedRun {
                 name: other.path,
                 run: &run,
+                clocks: &clocks,
             };
             two_drawn(alloc, options, title, texts, first, second)
         }

@@ -4,7 +4,8 @@
 //! [`draw_plain`] draws the plain run of scripts, [`draw_log`] their replay by a log, and
 //! [`draw_logs`] the replays by two logs under each other, with the first row that differs marked.
 //! By [`DrawOptions`] a page is made, a trace or both: [`Drawn`] has them, or else what is printed
-//! for the first fault. Nothing is written.
+//! for the first fault. Nothing is written. The clocks of calls that are not turns are noted while a
+//! run goes on; no contract speaks of them.
 //!
 //! ```rust
 //! use commands::{DEFAULTS, Source};
@@ -21,6 +22,7 @@
 //! ```
 #![tactic(auto)]
 
+mod clocks;
 mod draw;
 mod pictures;
 mod running;

@@ -3,6 +3,7 @@ ghost use Rattle.std.specs.Prelude.{◌≡◌, IfOk};
 ghost use Rattle.draw_commands.specs.Pictures.{ArePictures, IsDrawn, IsPageIf, IsTraceIf};
 ghost use Rattle.draw_commands.specs.Pictures.{OneDraws, TwoRunsDraw, place_of};
 
+use crate::clocks::{NotedClocks, drawn_calls};
 use answered_calls::answered_calls;
 use command_texts::Printed;
 use commands::Run;
@@ -32,11 +33,12 @@ pub enum Drawn {
     Fault(Printed),
 }
 
-/// A run, and what it is called.
+/// A run, what it is called, and the clocks of its calls.
 #[derive(Clone, Copy)]
 pub struct NamedRun<'a> {
     pub name: &'a str,
     pub run: &'a Run,
+    pub clocks: &'a NotedClocks,
 }
 
 /// What is drawn of a run of the scripts of these texts.
@@ -85,11 +87,11 @@ fn drawn_run<'a>(
 {
     let run = named.run;
     let rows = run.history.rows();
-    let calls = answered_calls(alloc, texts, &run.transcripts, rows)?;
+    let answered = answered_calls(alloc, texts, &run.transcripts, rows)?;
     Ok(DrawnRun {
         name: named.name.as_bytes(),
         threads: run.transcripts.threads().len(),
-        calls,
+        calls: drawn_calls(alloc, &answered, named.clocks)?,
         stop: run.stop,
     })
 }

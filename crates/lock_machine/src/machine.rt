@@ -106,6 +106,14 @@ impl LockMachine {
         self.threads[i].came
     }
 
+    /// The clock of thread i. That of a thread that has ended is the one at which it did.
+    pub fn clock(&self, i: usize) -> u64
+        requires { i < length self.now.threads }
+        ensures { result ≡ (thread_at self.now i).clock }
+    {
+        self.clocks.clock(i)
+    }
+
     /// The thread that has the turn: nobody has, once all threads have ended.
     pub fn turn_holder(&self) -> Option<usize>
         ensures holder { result ≡ turn_holder (clocks_of self.now.threads) }

@@ -1,4 +1,5 @@
 pub mod Boxes
+pub mod Drawn
 pub mod Escaped
 pub mod Kinds
 pub mod Laws

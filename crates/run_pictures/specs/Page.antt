@@ -4,13 +4,13 @@ use Rattle.std.specs.Prelude.{◌≡◌, ℕ, ◌+◌, Bool, List, [], ◌∷◌
 use Rattle.std.specs.Prelude.{if◌then◌else◌}
 use Rattle.std.specs.Fmt.{decimal}
 use Rattle.std.specs.List.{list_any}
-use Rattle.answered_calls.specs.declared.answered.AnsweredCall.{AnsweredCall}
 use Rattle.command_texts.specs.Transcripts.{◌+++◌}
 use Rattle.run_pictures.specs.Escaped.{escaped}
 use Rattle.run_pictures.specs.Kinds.{is_marked}
 use Rattle.run_pictures.specs.Layout.{AreLaid}
 use Rattle.run_pictures.specs.Picture.{picture_text}
 use Rattle.run_pictures.specs.Tables.{row_name, tables_text}
+use Rattle.run_pictures.specs.declared.drawn.DrawnCall.{DrawnCall}
 use Rattle.run_pictures.specs.declared.drawn.DrawnRun.{DrawnRun}
 use Rattle.run_pictures.specs.declared.fixed.TheConstants as fixed
 use Rattle.run_pictures.specs.declared.layout.Layout.{Layout}
@@ -27,8 +27,8 @@ differs_place thread number =
     fixed.DIFFERS_ROW.now +++ decimal number +++ fixed.DIFFERS_THREAD.now +++ decimal thread
 
 -- a row of this thread with this number is one of these calls
-abbrev pub has_row : ℕ × ℕ → List AnsweredCall → Bool
-has_row place calls = list_any (is_marked (Some place)) calls
+abbrev pub has_row : ℕ × ℕ → List DrawnCall → Bool
+has_row place calls = list_any (λ c. is_marked (Some place) c.call) calls
 
 -- a link to a line of the table of a run, under the run's name
 unfoldable pub link_text : ℕ × ℕ → ℕ → List ℕ → List ℕ

@@ -44,7 +44,7 @@ unfoldable pub table_text : Option (ℕ × ℕ) → ℕ → DrawnRun → List �
 table_text differs number run =
     fixed.TABLE_FRONT.now +++ escaped run.name.now
     +++ fixed.TABLE_STOP.now +++ end_words run.stop +++ fixed.TABLE_HEAD.now
-    +++ flat_map (row_text differs number) run.calls.items
+    +++ flat_map (λ c. row_text differs number c.call) run.calls.items
     +++ fixed.TABLE_END.now
 
 -- the tables of runs, the first of which has this number

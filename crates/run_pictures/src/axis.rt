@@ -1,7 +1,6 @@
 // The axis of a picture: the logical clock, where long stretches in which nothing begins or ends
 // are cut.
-use crate::drawn::DrawnRun;
-use answered_calls::AnsweredCall;
+use crate::drawn::{DrawnCall, DrawnRun};
 use std::alloc::{AllocError, Global};
 
 // How wide a clock is, in points.
@@ -10,10 +9,7 @@ const CLOCK_WIDTH: u64 = 20;
 // How many clocks are drawn of a stretch in which nothing begins or ends.
 const LONGEST: u64 = 8;
 
-// What a call takes that meets nobody.
-const COST: u64 = 4;
-
-/// A clock at which a box begins or ends, and how far from the left it is.
+/// A clock at which something begins or ends, and how far from the left it is.
 #[derive(Clone, Copy, Debug)]
 pub(crate) struct Column {
     pub clock: u64,
@@ -30,22 +26,46 @@ pub(crate) fn columns(alloc: Global, runs: &[DrawnRun<'_>]) -> Result<Vec<Column
     columns_of(alloc, &clocks)
 }
 
-fn add_clocks(clocks: &mut Vec<u64>, calls: &[AnsweredCall<'_>]) -> Result<(), AllocError> {
-    for i in 0..calls.len() {
-        let call = &calls[i];
-        clocks.push(call.granted)?;
-        clocks.push(call.row.turn.clock)?;
-        clocks.push(end_clock(call, calls.get(i + 1)))?;
+fn add_clocks(clocks: &mut Vec<u64>, calls: &[DrawnCall<'_>]) -> Result<(), AllocError> {
+    for drawn in calls {
+        clocks.push(drawn.clocks.asked)?;
+        clocks.push(drawn.call.granted)?;
+        let wait = wait_of(drawn);
+        if wait.begin < wait.end {
+            clocks.push(wait.begin)?;
+            clocks.push(wait.end)?;
+        }
+        clocks.push(drawn.clocks.answered)?;
     }
     Ok(())
 }
 
-/// The clock at which the box of a call ends, before this one in the order of calls.
-pub(crate) fn end_clock(call: &AnsweredCall<'_>, next: Option<&AnsweredCall<'_>>) -> u64 {
-    let end = call.row.turn.clock.saturating_add(COST);
-    match next {
-        Some(next) if next.thread == call.thread => end.min(next.granted),
-        _ => end,
+/// From which clock to which a call waited. It did not where both are the same.
+#[derive(Clone, Copy, Debug)]
+pub(crate) struct Wait {
+    pub begin: u64,
+    pub end: u64,
+}
+
+/// A call waited from its first turn, where that was blocked, and else from the first attempt at its
+/// object's lock that failed. It waited until its last turn or, where attempts failed after that,
+/// until the one that took the object.
+pub(crate) fn wait_of(drawn: &DrawnCall<'_>) -> Wait {
+    let turn = drawn.call.row.turn.clock;
+    let after = turn.saturating_add(1);
+    let begin = if drawn.call.blocked > 0 {
+        drawn.call.granted
+    } else {
+        after
+    };
+    let end = if drawn.clocks.locked > after {
+        drawn.clocks.locked
+    } else {
+        turn
+    };
+    Wait {
+        begin,
+        end: end.max(begin),
     }
 }
 

@@ -9,7 +9,28 @@ pub struct DrawnRun<'a> {
     /// How many threads it has. Each has a lane, also one without a call that was answered.
     pub threads: usize,
     /// Its calls, thread by thread, and those of a thread in their order.
-    pub calls: Vec<AnsweredCall<'a>>,
+    pub calls: Vec<DrawnCall<'a>>,
     /// What stopped it, where it did not come to its end.
     pub stop: Option<Stop>,
+}
+
+/// A call that is drawn.
+#[derive(Clone, Copy, Debug)]
+pub struct DrawnCall<'a> {
+    pub call: AnsweredCall<'a>,
+    /// Where it stands in the time of its thread, beside its turns.
+    pub clocks: CallClocks,
+}
+
+/// Clocks of a thread at a call of its own.
+#[derive(Clone, Copy, Debug, PartialEq, Eq)]
+pub struct CallClocks {
+    /// When the thread asked for it. From here to its first granted turn each attempt failed, one
+    /// at each clock.
+    pub asked: u64,
+    /// When it had all its locks at its last turn: at that turn, where it needed the table alone,
+    /// and else at the attempt that took its object. Any attempts between the two failed.
+    pub locked: u64,
+    /// When it was answered.
+    pub answered: u64,
 }

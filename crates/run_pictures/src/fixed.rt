@@ -42,10 +42,11 @@ svg .name{font:600 14px system-ui,sans-serif}
 .box rect{fill:var(--fill);stroke:var(--edge)}
 .box svg text{font-size:11px;paint-order:stroke;stroke:var(--fill);stroke-width:3px}
 .box .waited{fill:url(#hatch);stroke:none}
+.box .early{fill:url(#hatch);stroke-dasharray:3 3}
 #hatch rect{fill:var(--ink);opacity:.3;stroke:none}
 .outcome{fill:var(--outside-edge);color:var(--outside-edge);font:12px \
 ui-monospace,monospace;text-anchor:end}
-.box.differs rect:first-of-type{stroke:var(--mark);stroke-width:6px}
+.box.differs svg rect:first-of-type{stroke:var(--mark);stroke-width:6px}
 .tables{display:flex;flex-wrap:wrap;gap:24px;align-items:flex-start}
 table{border-collapse:collapse;font:13px ui-monospace,monospace}
 caption{text-align:left;font:600 14px system-ui,sans-serif;padding:4px 0;overflow-wrap:anywhere}
@@ -89,14 +90,17 @@ height=\"20\"/></svg> with an outcome from outside</span>
 height=\"20\"/></svg> failed</span>
 <span><svg class=\"box memory\" width=\"56\" height=\"20\"><rect width=\"100%\" \
 height=\"20\"/><rect class=\"waited\" width=\"34\" height=\"20\"/></svg> waited</span>
-<span><b class=\"outcome\">&#9660;2</b> outcome 2 of its thread came</span></p>
+<span><svg class=\"box memory\" width=\"34\" height=\"20\"><rect class=\"early\" \
+width=\"100%\" height=\"20\"/></svg> waited for its first turn</span>
+<span><b class=\"outcome\">&#9660;2</b> outcome 2 of its thread came last for it</span></p>
 <p class=\"legend\">A lane is a thread. From left to right goes the logical clock, at the same \
 place in all lanes. It is cut where nothing begins or ends
 for more than 8 clocks: 8 are drawn, shaded. A box is a call. It begins at the first turn that \
-the call was granted, and ends 4 clocks
-after the turn of its answer, or where the next one of its thread begins. The line before a box \
-is work, an outcome that was waited for,
-or attempts at a lock that failed. Point at a box to read its call.</p>
+the call was granted, and ends at its answer.
+It is hatched where the call waited: it was blocked, or attempts at its object's lock failed. \
+The hatching before it is where attempts at
+the table's lock failed. A line between two boxes is work of the thread. Point at a box to read \
+its call.</p>
 ";
 
 // ---- the names of the lanes
@@ -157,12 +161,24 @@ pub(crate) const BOX_TOP: &str = " ";
 
 pub(crate) const BOX_TITLE: &str = ")\"><title>";
 
-pub(crate) const BOX_LINE: &str = "</title><path d=\"M0 26h-";
+pub(crate) const BOX_LINE: &str = "</title><path d=\"M-";
 
-pub(crate) const BOX_WIDTH: &str = "\"/><svg y=\"14\" height=\"24\" width=\"";
+pub(crate) const BOX_LINE_LENGTH: &str = " 26h-";
 
-pub(crate) const BOX_WAITED: &str =
-    "\"><rect width=\"100%\" height=\"24\"/><rect class=\"waited\" height=\"24\" width=\"";
+pub(crate) const BOX_LINE_END: &str = "\"/>";
+
+pub(crate) const EARLY_FRONT: &str = "<rect class=\"early\" y=\"14\" height=\"24\" x=\"-";
+
+pub(crate) const EARLY_WIDTH: &str = "\" width=\"";
+
+pub(crate) const EARLY_END: &str = "\"/>";
+
+pub(crate) const BOX_WIDTH: &str = "<svg y=\"14\" height=\"24\" width=\"";
+
+pub(crate) const BOX_WAIT: &str =
+    "\"><rect width=\"100%\" height=\"24\"/><rect class=\"waited\" height=\"24\" x=\"";
+
+pub(crate) const BOX_WAITED: &str = "\" width=\"";
 
 pub(crate) const BOX_WORD: &str = "\"/><text x=\"4\" y=\"16\">";
 

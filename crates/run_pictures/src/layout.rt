@@ -1,9 +1,10 @@
 // Where all stands in a picture. Lengths are in points.
 ghost use Rattle.std.specs.Prelude.{◌≡◌, IfOk, map};
+ghost use Rattle.run_pictures.specs.Drawn.{calls_of};
 ghost use Rattle.run_pictures.specs.Layout.{AreLaid, calls_of_boxes, drawn_of, laid_of};
 
-use crate::axis::{Column, columns, cuts, end_clock, left_of, ticks};
-use crate::drawn::DrawnRun;
+use crate::axis::{Column, columns, cuts, left_of, ticks, wait_of};
+use crate::drawn::{CallClocks, DrawnCall, DrawnRun};
 use answered_calls::AnsweredCall;
 use std::alloc::{AllocError, Global};
 
@@ -17,11 +18,16 @@ const BESIDE_LANES: u64 = 60;
 #[derive(Clone, Copy, Debug)]
 pub(crate) struct CallBox<'a> {
     pub call: AnsweredCall<'a>,
+    pub clocks: CallClocks,
     pub left: u64,
     pub top: u64,
-    /// How long the line is that leads to it from the box before it in its lane, if there is one.
+    /// How long before it its thread had asked, while attempts at the table's lock failed.
+    pub early: u64,
+    /// How long the line is from the box before it in its lane, if there is one, to where its
+    /// thread asked.
     pub line: u64,
-    /// How much of it is the time for which the call waited.
+    /// Where in it the time begins for which the call waited, and how much of it that is.
+    pub wait: u64,
     pub waited: u64,
     pub width: u64,
 }
@@ -131,42 +137,51 @@ fn lane_top(thread: usize) -> u64 {
 fn boxes<'a>(
     alloc: Global,
     columns: &[Column],
-    calls: &[AnsweredCall<'a>],
+    calls: &[DrawnCall<'a>],
 ) -> Result<Vec<CallBox<'a>>, AllocError>
-    ensures { IfOk result (λ boxes. calls_of_boxes boxes.items ≡ calls.now) }
+    ensures { IfOk result (λ boxes. calls_of_boxes boxes.items ≡ calls_of calls.now) }
 {
     let mut boxes = Vec::new(alloc);
     let mut end = None;
-    for i in 0..calls.len() {
-        let call = calls[i];
-        let placed = placed_box(columns, end, call, calls.get(i + 1));
-        end = Some((call.thread, placed.left.saturating_add(placed.width)));
+    for drawn in calls {
+        let placed = placed_box(columns, end, *drawn);
+        end = Some((drawn.call.thread, placed.left.saturating_add(placed.width)));
         boxes.push(placed)?;
     }
     Ok(boxes)
 }
 
-// The box of a call, with the thread of the box before it and where that one ended, and the call
-// after it.
+// The box of a call, with the thread of the box before it and where that one ended.
 fn placed_box<'a>(
     columns: &[Column],
     before: Option<(usize, u64)>,
-    call: AnsweredCall<'a>,
-    next: Option<&AnsweredCall<'a>>,
+    drawn: DrawnCall<'a>,
 ) -> CallBox<'a>
-    ensures { result.call ≡ call.entry }
+    ensures { result.call ≡ drawn.entry.call }
 {
+    let DrawnCall { call, clocks } = drawn;
     let left = left_of(columns, call.granted);
+    let asked = left_of(columns, clocks.asked);
     let line = match before {
-        Some((thread, end)) if thread == call.thread => left.saturating_sub(end),
+        Some((thread, end)) if thread == call.thread => asked.saturating_sub(end),
         _ => 0,
     };
+    let wait = wait_of(&drawn);
+    let begin = left_of(columns, wait.begin);
+    let waited = left_of(columns, wait.end).saturating_sub(begin);
     CallBox {
         call,
+        clocks,
         left,
         top: lane_top(call.thread),
+        early: left.saturating_sub(asked),
         line,
-        waited: left_of(columns, call.row.turn.clock).saturating_sub(left),
-        width: left_of(columns, end_clock(&call, next)).saturating_sub(left),
+        wait: if waited == 0 {
+            0
+        } else {
+            begin.saturating_sub(left)
+        },
+        waited,
+        width: left_of(columns, clocks.answered).saturating_sub(left),
     }
 }

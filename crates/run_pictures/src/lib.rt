@@ -8,15 +8,15 @@
 //!
 //! By the contracts a page has a box and a line of a table for each call, in their order, each
 //! marked by how its call came to its answer; and nothing that a run is called, asks or gets can
-//! be taken for a part of the page. Where the boxes stand is tested by eye: `tools/look`.
+//! be taken for a part of the page. Where the boxes stand, and that the clocks are right which
+//! are handed in, is tested: by `tools/pages`, and by eye with `tools/look`.
 //!
 //! ```rust
-//! use answered_calls::AnsweredCall;
-//! use run_pictures::{DrawnRun, page};
+//! use run_pictures::{DrawnCall, DrawnRun, page};
 //! use std::alloc::{AllocError, Global};
 //!
 //! // The page of a run of two threads that came to its end.
-//! fn page_of(alloc: Global, calls: Vec<AnsweredCall<'_>>) -> Result<Vec<u8>, AllocError> {
+//! fn page_of(alloc: Global, calls: Vec<DrawnCall<'_>>) -> Result<Vec<u8>, AllocError> {
 //!     let run = DrawnRun {
 //!         name: b"the plain run",
 //!         threads: 2,
@@ -42,7 +42,7 @@ mod picture;
 mod tables;
 mod traces;
 
-pub use drawn::DrawnRun;
+pub use drawn::{CallClocks, DrawnCall, DrawnRun};
 pub use laws::escaped_is_harmless;
 pub use pages::page;
 pub use traces::trace;

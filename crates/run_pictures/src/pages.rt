@@ -3,7 +3,7 @@ ghost use Rattle.run_pictures.specs.Page.{IsPage, differs_place, differs_text, f
 ghost use Rattle.run_pictures.specs.Page.{has_row, link_or_none, link_text, links_text};
 ghost use Rattle.run_pictures.specs.Page.{no_row_text, page_text};
 
-use crate::drawn::DrawnRun;
+use crate::drawn::{DrawnCall, DrawnRun};
 use crate::escaped::push_escaped;
 use crate::fixed::{
     DIFFERS_END, DIFFERS_ROW, DIFFERS_THREAD, LEGEND, LINK_END, LINK_FRONT, LINK_NAME, NO_ROW_END,
@@ -13,7 +13,6 @@ use crate::kinds::is_marked;
 use crate::layout::{Layout, lay_out};
 use crate::picture::push_picture;
 use crate::tables::{push_row_name, push_tables};
-use answered_calls::AnsweredCall;
 use command_texts::{push_number, push_word};
 use std::alloc::{AllocError, Global};
 
@@ -124,10 +123,12 @@ fn push_link_or_none(
 }
 
 // Whether this row is one of these calls.
-fn has_row(place: (usize, usize), calls: &[AnsweredCall<'_>]) -> bool
+fn has_row(place: (usize, usize), calls: &[DrawnCall<'_>]) -> bool
     ensures { result ≡ has_row place calls.now }
 {
-    calls.iter().any(|call| is_marked(Some(place), call))
+    calls
+        .iter()
+        .any(|drawn| is_marked(Some(place), &drawn.call))
 }
 
 #[tactic(auto, unfolding(crate::specs::Page::link_text))]

@@ -4,7 +4,7 @@ ghost use Rattle.std.specs.List.{flat_map};
 ghost use Rattle.run_pictures.specs.Tables.{cell_text, cells_text, row_front, row_name};
 ghost use Rattle.run_pictures.specs.Tables.{row_text, table_text, tables_text};
 
-use crate::drawn::DrawnRun;
+use crate::drawn::{DrawnCall, DrawnRun};
 use crate::escaped::{push_asked_escaped, push_escaped, push_reply_escaped};
 use crate::fixed::{
     CELL, ROW_CELLS, ROW_END, ROW_FRONT, ROW_NAME, TABLE_END, TABLE_FRONT, TABLE_HEAD, TABLE_STOP,
@@ -56,13 +56,14 @@ fn push_rows(
     text: &mut Vec<u8>,
     differs: Option<(usize, usize)>,
     run: usize,
-    calls: &[AnsweredCall<'_>],
+    calls: &[DrawnCall<'_>],
 ) -> Result<(), AllocError>
     ensures { OnOk result (
-        text.new.items ≡ text.old.items ++ flat_map (row_text differs run) calls.now) }
+        text.new.items
+        ≡ text.old.items ++ flat_map (λ c. row_text differs run c.call) calls.now) }
 {
-    for call in calls {
-        push_row(alloc, text, differs, run, call)?;
+    for drawn in calls {
+        push_row(alloc, text, differs, run, &drawn.call)?;
     }
     Ok(())
 }

@@ -3,10 +3,11 @@ ghost use Rattle.std.specs.Prelude.{◌≡◌, ◌<◌, IfOk, map, string_bytes}
 ghost use Rattle.run_views.specs.Calls.{asked_text};
 ghost use Rattle.command_texts.specs.Transcripts.{reply_text};
 ghost use Rattle.serde_json.specs.View.{view};
+ghost use Rattle.run_pictures.specs.Drawn.{calls_of};
 ghost use Rattle.run_pictures.specs.Trace.{IsTrace, arguments_data, calls_of_timed, event_data};
 ghost use Rattle.run_pictures.specs.Trace.{outcome_data, shown, shown_byte, trace_data};
 
-use crate::axis::end_clock;
+use crate::drawn::DrawnCall;
 use crate::kinds::kind_of_row;
 use answered_calls::AnsweredCall;
 use command_texts::push_reply;
@@ -24,24 +25,21 @@ pub(crate) struct TimedCall<'a> {
 /// The calls as a text in the trace event format, which is JSON: an event for each call, in which a
 /// clock counts as a microsecond. It is as long as the call's box in a page.
 #[tactic(auto, using(crate::proofs::Depths::trace_depth))]
-pub fn trace(alloc: Global, calls: &[AnsweredCall<'_>]) -> Result<Vec<u8>, AllocError>
-    ensures { IfOk result (λ text. IsTrace calls.now text.items) }
+pub fn trace(alloc: Global, calls: &[DrawnCall<'_>]) -> Result<Vec<u8>, AllocError>
+    ensures { IfOk result (λ text. IsTrace (calls_of calls.now) text.items) }
 {
     let timed = timed_calls(alloc, calls)?;
     let trace = trace_value(alloc, &timed)?;
     trace.to_vec(alloc)
 }
 
-fn timed_calls<'a>(
-    alloc: Global,
-    calls: &[AnsweredCall<'a>],
-) -> Result<Vec<TimedCall<'a>>, AllocError>
-    ensures { IfOk result (λ timed. calls_of_timed timed.items ≡ calls.now) }
+fn timed_calls<'a>(alloc: Global, calls: &[DrawnCall<'a>]) -> Result<Vec<TimedCall<'a>>, AllocError>
+    ensures { IfOk result (λ timed. calls_of_timed timed.items ≡ calls_of calls.now) }
 {
     let mut timed = Vec::new(alloc);
-    for i in 0..calls.len() {
-        let call = calls[i];
-        let length = end_clock(&call, calls.get(i + 1)).saturating_sub(call.granted);
+    for drawn in calls {
+        let call = drawn.call;
+        let length = drawn.clocks.answered.saturating_sub(call.granted);
         timed.push(TimedCall { call, length })?;
     }
     Ok(timed)

@@ -7,12 +7,12 @@ unfolding shape_text
 returns c =
     simp (
       append_assoc,
+      c.in_ok-push_line.ensures,
+      c.in_ok-push_early.ensures,
       c.in_ok-push_shape_front.ensures,
+      c.in_ok-push_wait.ensures,
       c.in_ok-push_word.ensures,
-      c.in_ok-push_number.ensures,
-      c.in_ok-push_word-2.ensures,
-      c.in_ok-push_word-3.ensures,
       c.word.ensures,
       c.kind.ensures,
     )
-    at c.push_word-4.ensures
+    at c.push_word-2.ensures

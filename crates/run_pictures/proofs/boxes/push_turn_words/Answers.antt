@@ -13,5 +13,7 @@ returns c =
       c.in_ok-push_number-2.ensures,
       c.in_ok-push_word-3.ensures,
       c.in_ok-push_number-3.ensures,
+      c.in_ok-push_word-4.ensures,
+      c.in_ok-push_number-4.ensures,
     )
-    at c.push_word-4.ensures
+    at c.push_word-5.ensures

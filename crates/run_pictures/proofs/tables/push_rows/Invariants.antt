@@ -3,7 +3,7 @@ use Rattle.std.specs.List.{flat_map}
 use Rattle.run_pictures.specs.Tables.{row_text}
 use Rattle.run_pictures.proofs.tables.push_rows.Given as goal
 
-abbrev pub invariant-loop-call : goal.invariant-loop-call
-invariant-loop-call l =
-    l.text.items ++ flat_map (row_text l.differs l.run) (drop l.call-index l.calls)
-    ≡ l.initial.text.items ++ flat_map (row_text l.differs l.run) l.calls
+abbrev pub invariant-loop-drawn : goal.invariant-loop-drawn
+invariant-loop-drawn l =
+    l.text.items ++ flat_map (λ c. row_text l.differs l.run c.call) (drop l.drawn-index l.calls)
+    ≡ l.initial.text.items ++ flat_map (λ c. row_text l.differs l.run c.call) l.calls
