@@ -12,7 +12,8 @@ from detio_tools import edits, prover, repository
 from detio_tools.edits import Edit, Texts
 
 # What `rt ci` says of a crate that is proved, and last of all.
-PROVED = re.compile(r"^rt: (\w+) proved$", re.M)
+# What `rt ci` says of a crate that it proved, or that an earlier run on this machine did.
+PROVED = re.compile(r"^rt: (\w+) (?:proved$|is kept: )", re.M)
 OVER = re.compile(r"^\d+ passed, \d+ failed$", re.M)
 
 
