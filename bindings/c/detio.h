@@ -3,7 +3,7 @@
  * The program holds one lock around each call of this page; detio_threads.h does so. A `detio` is begun with
  * zeroes, stays where it is, and is neither copied nor written. No pointer is NULL, also where its length is 0, and
  * what is written is nothing else that the call is given. Each call but `detio_free` returns a code: what was refused
- * (3 and above) has changed nothing, except that at DETIO_LOG_FULL the run is stopped. */
+ * (3 and above) has changed nothing, except that where detio_record returns DETIO_LOG_FULL the run is stopped. */
 #ifndef DETIO_H
 #define DETIO_H
 
@@ -210,7 +210,8 @@ typedef struct {
   size_t length; /* of the log */
 } detio_run_end;
 
-/* A run, or a replay of a log, in place of what was there. A log that is torn is replayed up to the tear. */
+/* A run, or a replay of a log, in place of what was there, which stays where these are refused: so also at
+ * DETIO_LOG_FULL, where `room` is too small for the head of a log. A log that is torn is replayed up to the tear. */
 uint32_t detio_new(detio *, const detio_settings *);
 uint32_t detio_open_log(detio *, const uint8_t *log, size_t length);
 void detio_free(detio *);
@@ -227,7 +228,8 @@ uint32_t detio_answer(detio *, size_t thread, detio_reply *, uint8_t *data, size
 uint32_t detio_phase(detio *, size_t thread, uint32_t *phase);
 uint32_t detio_has_turn(detio *, size_t thread, bool *has);
 
-/* The attempts of whoever has the turn. */
+/* The attempts of whoever has the turn. Where one is refused after others were made, DETIO_MORE is returned, and the
+ * next call is refused. */
 uint32_t detio_settle(detio *);
 
 /* Outside. */
@@ -239,7 +241,8 @@ uint32_t detio_record(detio *, size_t thread, const detio_outcome *, const uint8
 uint32_t detio_next(detio *, size_t thread, detio_outcome *, uint8_t *data, size_t room);
 uint32_t detio_unused(detio *, size_t thread, uint64_t *count);
 
-/* The end of a run. Where detio_finish is refused for memory, it may be called again. */
+/* The end of a run. DETIO_STOP_END_OF_LOG and DETIO_STOP_DIVERGED are for a thread, the others for none. Where
+ * detio_finish is refused for memory, it may be called again. */
 uint32_t detio_stop(detio *, uint32_t cause, size_t thread);
 uint32_t detio_finish(detio *, detio_run_end *);
 

@@ -7,6 +7,8 @@
 #include <fcntl.h>
 #include <netinet/in.h>
 #include <poll.h>
+#include <pthread.h>
+#include <signal.h>
 #include <string.h>
 #include <sys/socket.h>
 #include <sys/stat.h>
@@ -128,8 +130,29 @@ static ssize_t read_once(int door, bool waits, uint8_t *data, size_t count) {
   return recv(door, data, count, waits ? 0 : MSG_DONTWAIT);
 }
 
+/* A write to a FIFO that nobody reads fails: the signal that comes of it is blocked, and taken away, unless there was
+ * one before. */
+static ssize_t write_quietly(int door, const uint8_t *data, size_t count) {
+  static const struct timespec now = {0};
+  sigset_t broken, before, there;
+  sigemptyset(&broken);
+  sigaddset(&broken, SIGPIPE);
+  sigemptyset(&there);
+  pthread_sigmask(SIG_BLOCK, &broken, &before);
+  sigpending(&there);
+  ssize_t done = write(door, data, count);
+  int error = errno;
+  if (done < 0 && error == EPIPE && !sigismember(&there, SIGPIPE)) {
+    while (sigtimedwait(&broken, NULL, &now) < 0 && errno == EINTR) {
+    }
+  }
+  pthread_sigmask(SIG_SETMASK, &before, NULL);
+  errno = error;
+  return done;
+}
+
 static ssize_t write_once(int door, bool waits, const uint8_t *data, size_t count) {
-  if (!is_stream(door)) return write(door, data, count);
+  if (!is_stream(door)) return write_quietly(door, data, count);
   return send(door, data, count, MSG_NOSIGNAL | (waits ? 0 : MSG_DONTWAIT));
 }
 
@@ -173,6 +196,7 @@ static void reach_opening(const detio_outside *asked, int door, unsigned wait, u
 
 void detio_host_reach(const detio_outside *asked, bool goes, uint64_t door, unsigned wait, uint8_t *data, size_t room,
                       detio_outcome *came) {
+  if (wait > DETIO_WAIT_MOST) wait = DETIO_WAIT_MOST;
   bool waits = asked->waits && wait;
   int at = goes ? (int)door : -1;
   int64_t done = -1;

@@ -182,6 +182,7 @@ static uint32_t make(detio_run *run, size_t threads, bool replays, unsigned wait
 
 uint32_t detio_run_begin(detio_run *run, const detio_settings *settings, unsigned wait) {
   memset(run, 0, sizeof *run);
+  if (wait > DETIO_WAIT_MOST) return DETIO_BAD_SETTINGS;
   uint32_t code = detio_new(&run->machine, settings);
   return code == DETIO_DONE ? make(run, settings->threads, false, wait) : code;
 }

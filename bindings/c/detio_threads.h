@@ -26,13 +26,13 @@ typedef struct {
   size_t threads;
   bool replays;
   uint32_t lacks[DETIO_THREADS_MOST]; /* of a replay: why a thread that is outside has no outcome, or 0 */
-  unsigned wait;                      /* for how many milliseconds a call waits for its peer */
+  unsigned wait;                      /* for how many milliseconds a call waits for its peer, up to 60,000 */
   int doors[DETIO_DOORS_MOST];        /* what is open at the host, for which the run has descriptors */
   size_t open;
 } detio_run;
 
-/* A run begins. Reads and writes of streams and accepts wait for their peer for `wait` milliseconds, and then are made
- * again at a later turn; 10 does for most. */
+/* A run begins. Reads and writes of streams and accepts wait for their peer for `wait` milliseconds, 0 to 60,000, and
+ * then are made again at a later turn; 10 does for most. For a longer wait DETIO_BAD_SETTINGS is returned. */
 uint32_t detio_run_begin(detio_run *, const detio_settings *, unsigned wait);
 
 /* A replay of a log begins, for as many threads as the log has. */

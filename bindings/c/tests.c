@@ -4,9 +4,14 @@
  *                      threads are left out, for where each step is dear */
 #include "detio_threads.h"
 
+#include <fcntl.h>
+#include <limits.h>
+#include <signal.h>
 #include <stdio.h>
 #include <stdlib.h>
 #include <string.h>
+#include <sys/stat.h>
+#include <unistd.h>
 
 #define CHECK(what) \
   do { \
@@ -98,6 +103,9 @@ static void threads_that_are_not_there(void) {
     CHECK(detio_record(&m, t, &came, none, 0) == DETIO_NO_THREAD);
     CHECK(detio_next(&m, t, &came, data, sizeof data) == DETIO_NO_THREAD);
     CHECK(detio_unused(&m, t, &number) == DETIO_NO_THREAD);
+    CHECK(detio_stop(&m, DETIO_STOP_END_OF_LOG, t) == DETIO_NO_THREAD);
+    CHECK(detio_stop(&m, DETIO_STOP_DIVERGED, t) == DETIO_NO_THREAD);
+    CHECK(phase(&m, 0) == DETIO_WORKING);
   }
   CHECK(detio_again(&m, 0) == DETIO_WRONG_PHASE);
   CHECK(detio_answer(&m, 0, &reply, data, sizeof data) == DETIO_WRONG_PHASE);
@@ -171,45 +179,87 @@ static void calls_that_fail(void) {
   detio_free(&m);
 }
 
+/* Settings that cannot be, and bytes that are no log: the handle is as it was. */
+static void begins_nothing(detio *m, void (*is_as_it_was)(detio *)) {
+  static const struct {
+    detio_settings settings;
+    uint32_t code;
+  } wrong[] = {
+      {{.threads = 17, .patience = 1000, .door_cost = 100, .version = 2, .room = 4096}, DETIO_BAD_SETTINGS},
+      {{.threads = 0, .patience = 1000, .door_cost = 100, .version = 2, .room = 4096}, DETIO_BAD_SETTINGS},
+      {{.threads = SIZE_MAX, .patience = 1000, .door_cost = 100, .version = 2, .room = 4096}, DETIO_BAD_SETTINGS},
+      {{.threads = 1, .patience = 1000, .door_cost = 100, .version = 3, .room = 4096}, DETIO_BAD_SETTINGS},
+      {{.threads = 1, .patience = 1000, .door_cost = 100, .version = 65537, .room = 4096}, DETIO_BAD_SETTINGS},
+      {{.threads = 1, .patience = 0, .door_cost = 100, .version = 2, .room = 4096}, DETIO_BAD_SETTINGS},
+      {{.threads = 1, .patience = 1000001, .door_cost = 100, .version = 2, .room = 4096}, DETIO_BAD_SETTINGS},
+      {{.threads = 1, .patience = 1000, .door_cost = UINT32_MAX, .version = 2, .room = 4096}, DETIO_BAD_SETTINGS},
+      {{.threads = 1, .patience = 1000, .door_cost = 100, .version = 2, .room = 15}, DETIO_LOG_FULL},
+      {{.threads = 1, .patience = 1000, .door_cost = 100, .version = 2, .room = SIZE_MAX}, DETIO_NO_MEMORY},
+  };
+  for (size_t i = 0; i < sizeof wrong / sizeof *wrong; i++) {
+    CHECK(detio_new(m, &wrong[i].settings) == wrong[i].code);
+    is_as_it_was(m);
+  }
+  CHECK(detio_open_log(m, (const uint8_t *)"DIOX", 4) == DETIO_NOT_A_LOG);
+  is_as_it_was(m);
+  CHECK(detio_open_log(m, none, 0) == DETIO_NOT_A_LOG);
+  is_as_it_was(m);
+}
+
+static void is_empty(detio *m) { CHECK(detio_settle(m) == DETIO_NO_SESSION); }
+
+/* Thread 0 has asked a call, and nothing was attempted. */
+static void has_asked(detio *m) { CHECK(phase(m, 0) == DETIO_WANTS_TABLE); }
+
 static void what_cannot_be(void) {
   detio m = {0};
-  detio_settings wrong = one;
-  wrong.threads = 17;
-  CHECK(detio_new(&m, &wrong) == DETIO_BAD_SETTINGS);
-  wrong.threads = 0;
-  CHECK(detio_new(&m, &wrong) == DETIO_BAD_SETTINGS);
-  wrong.threads = SIZE_MAX;
-  CHECK(detio_new(&m, &wrong) == DETIO_BAD_SETTINGS);
-  wrong = one;
-  wrong.version = 3;
-  CHECK(detio_new(&m, &wrong) == DETIO_BAD_SETTINGS);
-  wrong.version = 65537;
-  CHECK(detio_new(&m, &wrong) == DETIO_BAD_SETTINGS);
-  wrong = one;
-  wrong.patience = 0;
-  CHECK(detio_new(&m, &wrong) == DETIO_BAD_SETTINGS);
-  wrong.patience = 1000001;
-  CHECK(detio_new(&m, &wrong) == DETIO_BAD_SETTINGS);
-  wrong = one;
-  wrong.door_cost = UINT32_MAX;
-  CHECK(detio_new(&m, &wrong) == DETIO_BAD_SETTINGS);
-  wrong = one;
-  wrong.room = 15;
-  CHECK(detio_new(&m, &wrong) == DETIO_LOG_FULL);
-  wrong.room = SIZE_MAX;
-  CHECK(detio_new(&m, &wrong) == DETIO_NO_MEMORY);
-  CHECK(detio_open_log(&m, (const uint8_t *)"DIOX", 4) == DETIO_NOT_A_LOG);
-  CHECK(detio_open_log(&m, none, 0) == DETIO_NOT_A_LOG);
-  CHECK(detio_settle(&m) == DETIO_NO_SESSION);
+  begins_nothing(&m, is_empty);
   CHECK(detio_new(&m, &one) == DETIO_DONE);
-  /* What was refused leaves the run that was there. */
-  CHECK(detio_new(&m, &wrong) == DETIO_NO_MEMORY && phase(&m, 0) == DETIO_WORKING);
-  CHECK(detio_open_log(&m, none, 0) == DETIO_NOT_A_LOG && phase(&m, 0) == DETIO_WORKING);
+  CHECK(ask(&m, 0, (detio_call){.kind = DETIO_PIPE}, NULL) == DETIO_DONE);
+  begins_nothing(&m, has_asked);
+  CHECK(answered(&m).kind == DETIO_PAIR);
   CHECK(detio_stop(&m, 0, 0) == DETIO_NOT_A_CALL && detio_stop(&m, 9, 0) == DETIO_NOT_A_CALL);
   CHECK(detio_stop(&m, DETIO_STOP_MEMORY, 0) == DETIO_DONE);
   CHECK(detio_stop(&m, DETIO_STOP_MEMORY, 0) == DETIO_STOPPED);
   CHECK(detio_settle(&m) == DETIO_STOPPED);
   CHECK(ask(&m, 0, (detio_call){.kind = DETIO_PIPE}, NULL) == DETIO_STOPPED);
+  detio_free(&m);
+}
+
+/* A thread that has opened a file asks to read it, with so many units of its clock left before that: its file is
+ * number 0. How many units it worked. */
+static uint64_t wants_to_read(detio *m, uint64_t left, uint64_t worked) {
+  CHECK(detio_new(m, &one) == DETIO_DONE);
+  CHECK(ask(m, 0, (detio_call){.kind = DETIO_OPEN, .choice = DETIO_READ_WRITE, .flags = DETIO_CREATE}, "/a") == 0);
+  CHECK(answered(m).first == 0);
+  if (worked) CHECK(detio_work(m, 0, worked - left) == DETIO_DONE);
+  for (uint64_t units = UINT64_C(1) << 63; !worked && units; units /= 2) {
+    if (detio_work(m, 0, units) == DETIO_DONE) left += units;
+  }
+  CHECK(ask(m, 0, (detio_call){.kind = DETIO_READ, .number = 1}, NULL) == DETIO_DONE);
+  return left;
+}
+
+/* Attempts that are refused, since a clock is full: where others were made before in the same call, there may be
+ * more, and only a call that made none is refused. */
+static void a_clock_is_full(void) {
+  detio m = {0};
+  int refused_later = 0;
+  uint64_t most = wants_to_read(&m, 0, 0);
+  for (uint64_t left = 0; left < 6; left++) {
+    uint32_t code, before;
+    int calls = 0;
+    wants_to_read(&m, left, most);
+    do {
+      before = phase(&m, 0);
+      code = detio_settle(&m);
+      CHECK(++calls < 10);
+    } while (code == DETIO_MORE);
+    CHECK(code == DETIO_DONE || code == DETIO_CLOCK_FULL);
+    CHECK(code == DETIO_DONE || phase(&m, 0) == before);
+    refused_later += code == DETIO_CLOCK_FULL && before != DETIO_WANTS_TABLE;
+  }
+  CHECK(refused_later);
   detio_free(&m);
 }
 
@@ -224,6 +274,30 @@ static void small_buffers_lose_nothing(void) {
   CHECK(ask(&m, 0, (detio_call){.kind = DETIO_PREAD, .number = 9}, NULL) == 0);
   CHECK(detio_settle(&m) == DETIO_DONE);
   CHECK(detio_answer(&m, 0, &reply, data, 4) == DETIO_NO_ROOM);
+  CHECK(detio_answer(&m, 0, &reply, data, 5) == DETIO_DONE);
+  CHECK(reply.kind == DETIO_DATA && reply.count == 5 && !memcmp(data, "hello", 5));
+  detio_free(&m);
+}
+
+/* A read of a host file by hand: where the buffer is too small for what came, the next one has it all. */
+static void small_buffers_lose_nothing_from_outside(void) {
+  detio m = {0};
+  detio_reply reply;
+  detio_outcome came = {.opened = 7};
+  bool goes;
+  uint64_t door;
+  CHECK(detio_new(&m, &one) == DETIO_DONE);
+  CHECK(ask(&m, 0, (detio_call){.kind = DETIO_HOST_OPEN, .choice = DETIO_READ_ONLY}, "in") == DETIO_DONE);
+  CHECK(detio_settle(&m) == DETIO_DONE && detio_begin_outside(&m, 0, &goes, &door) == DETIO_DONE && !goes);
+  CHECK(detio_record(&m, 0, &came, none, 0) == DETIO_DONE && answered(&m).first == 0);
+  CHECK(ask(&m, 0, (detio_call){.kind = DETIO_READ, .number = 9}, NULL) == DETIO_DONE);
+  CHECK(detio_settle(&m) == DETIO_DONE && detio_begin_outside(&m, 0, &goes, &door) == DETIO_DONE && goes);
+  came = (detio_outcome){.value = 5, .length = 5, .back = door};
+  CHECK(detio_record(&m, 0, &came, (const uint8_t *)"hello", 5) == DETIO_DONE);
+  for (size_t room = 0; room < 5; room++) {
+    CHECK(detio_answer(&m, 0, &reply, data, room) == DETIO_NO_ROOM && phase(&m, 0) == DETIO_RECORDED);
+  }
+  memset(data, 0, 9);
   CHECK(detio_answer(&m, 0, &reply, data, 5) == DETIO_DONE);
   CHECK(reply.kind == DETIO_DATA && reply.count == 5 && !memcmp(data, "hello", 5));
   detio_free(&m);
@@ -250,6 +324,13 @@ static void outside_by_hand(void) {
   CHECK(detio_record(&m, 0, &came, none, 0) == DETIO_WRONG_PHASE);
   CHECK(detio_begin_outside(&m, 0, &goes, &door) == DETIO_DONE && !goes);
   CHECK(detio_record(&m, 0, &came, none, 0) == DETIO_NO_ANSWER);
+  for (uint64_t error = DETIO_ETIMEDOUT + 1; error <= UINT32_MAX; error = error * 2 + 1) {
+    came.error = (uint32_t)error;
+    CHECK(detio_record(&m, 0, &came, none, 0) == DETIO_NO_ANSWER && phase(&m, 0) == DETIO_OUTSIDE);
+  }
+  came.error = 257;
+  CHECK(detio_record(&m, 0, &came, none, 0) == DETIO_NO_ANSWER && phase(&m, 0) == DETIO_OUTSIDE);
+  came.error = 0;
   came.value = 0;
   came.opened = 7;
   CHECK(detio_record(&m, 0, &came, none, 0) == DETIO_DONE);
@@ -476,6 +557,63 @@ static void one_thread_plays_two(void) {
   detio_run_free(&run);
 }
 
+/* Waits that are too long: 2^31 and more would have no bound. */
+static void waits_have_a_bound(void) {
+  static const unsigned long_waits[] = {60001, INT_MAX, (unsigned)INT_MAX + 1, UINT_MAX};
+  detio_run run;
+  for (size_t i = 0; i < sizeof long_waits / sizeof *long_waits; i++) {
+    CHECK(detio_run_begin(&run, &one, long_waits[i]) == DETIO_BAD_SETTINGS);
+  }
+  CHECK(detio_run_begin(&run, &one, 60000) == DETIO_DONE);
+  detio_run_free(&run);
+}
+
+/* A call of thread 0 with a path or bytes, if it has some. */
+static uint32_t makes(detio_run *run, detio_call call, const char *text, detio_reply *reply, size_t room) {
+  return detio_thread_call(run, 0, &call, text, text ? strlen(text) : 0, NULL, 0, reply, data, room);
+}
+
+/* A read of a host file with a buffer that is too small, and the same call with a greater one. */
+static void a_read_is_resumed(void) {
+  static const char path[] = "tests-small.txt";
+  detio_run run;
+  detio_reply reply;
+  FILE *file = fopen(path, "w");
+  CHECK(file && fputs("hello", file) >= 0 && fclose(file) == 0);
+  CHECK(detio_run_begin(&run, &one, 10) == DETIO_DONE);
+  CHECK(makes(&run, (detio_call){.kind = DETIO_HOST_OPEN, .choice = DETIO_READ_ONLY}, path, &reply, 0) == DETIO_DONE);
+  CHECK(makes(&run, (detio_call){.kind = DETIO_READ, .number = 9}, NULL, &reply, 2) == DETIO_NO_ROOM);
+  CHECK(detio_thread_resume(&run, 0, &reply, data, 4) == DETIO_NO_ROOM);
+  CHECK(detio_thread_resume(&run, 0, &reply, NULL, 0) == DETIO_NO_ROOM);
+  memset(data, 0, 9);
+  CHECK(detio_thread_resume(&run, 0, &reply, data, 5) == DETIO_DONE);
+  CHECK(reply.kind == DETIO_DATA && reply.count == 5 && !memcmp(data, "hello", 5));
+  CHECK(detio_thread_resume(&run, 0, &reply, data, 5) == DETIO_WRONG_PHASE);
+  CHECK(detio_thread_end(&run, 0) == DETIO_DONE);
+  detio_run_free(&run);
+  CHECK(remove(path) == 0);
+}
+
+/* A write to a FIFO that nobody reads fails with EPIPE, and raises no signal, now or later. */
+static void a_pipe_of_the_host_breaks(void) {
+  static const char path[] = "tests-fifo";
+  detio_run run;
+  detio_reply reply;
+  sigset_t there;
+  CHECK(mkfifo(path, 0600) == 0);
+  int reader = open(path, O_RDONLY | O_NONBLOCK);
+  CHECK(reader >= 0);
+  CHECK(detio_run_begin(&run, &one, 10) == DETIO_DONE);
+  CHECK(makes(&run, (detio_call){.kind = DETIO_HOST_OPEN, .choice = DETIO_WRITE_ONLY}, path, &reply, 0) == DETIO_DONE);
+  CHECK(reply.kind == DETIO_NUMBER && close(reader) == 0);
+  CHECK(makes(&run, (detio_call){.kind = DETIO_WRITE}, "x", &reply, 0) == DETIO_DONE);
+  CHECK(reply.kind == DETIO_FAILURE && reply.error == DETIO_EPIPE);
+  CHECK(sigpending(&there) == 0 && !sigismember(&there, SIGPIPE));
+  CHECK(detio_thread_end(&run, 0) == DETIO_DONE);
+  detio_run_free(&run);
+  CHECK(remove(path) == 0);
+}
+
 int main(int argc, char **argv) {
   int times = argc > 1 ? atoi(argv[1]) : 20;
   a_handle_with_nothing();
@@ -483,9 +621,14 @@ int main(int argc, char **argv) {
   calls_that_are_not_there();
   calls_that_fail();
   what_cannot_be();
+  a_clock_is_full();
   small_buffers_lose_nothing();
+  small_buffers_lose_nothing_from_outside();
   outside_by_hand();
   one_thread_plays_two();
+  waits_have_a_bound();
+  a_read_is_resumed();
+  a_pipe_of_the_host_breaks();
   logs_are_replayed(1);
   logs_are_replayed(2);
   if (times > 1) logs_are_replayed(16);

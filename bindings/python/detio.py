@@ -27,6 +27,7 @@ import threading
 __all__ = ['Run', 'Result', 'Stopped', 'Thread']
 
 LARGEST = 32767
+LONGEST_WAIT = 60000
 MORE = 1
 
 CALLS = ('open close read write pread pwrite lseek ftruncate fstat dup dup_from dup2 getfl setfl link unlink rename '
@@ -107,6 +108,12 @@ class Stopped(Exception):
     def __init__(self, code):
         super().__init__(CODES.get(code, f'code {code}'))
         self.code = code
+
+
+def done(code):
+    """Raises what was refused."""
+    if code:
+        raise Stopped(code)
 
 
 class Asked:
@@ -252,9 +259,7 @@ class Thread(Calls):
 
     def work(self, units):
         """Works for so many units of the thread's clock, so that others come first meanwhile."""
-        code = library.detio_thread_work(self._run, self.number, units)
-        if code:
-            raise Stopped(code)
+        done(library.detio_thread_work(self._run, self.number, units))
 
     def _asked(self, asked):
         if self._seed is not None:
@@ -263,8 +268,7 @@ class Thread(Calls):
         code = library.detio_thread_call(self._run, self.number, asked.call, asked.text, len(asked.text), asked.second,
                                          len(asked.second), reply, self._data, LARGEST)
         self._keep()
-        if code:
-            raise Stopped(code)
+        done(code)
         return self._value(asked, reply)
 
 
@@ -362,11 +366,13 @@ class Result:
 
 class Run:
     """Functions that are run together, at most 16: each in a thread of its own, or all by their steps, where each is a
-    generator."""
+    generator. Streams and accepts wait for their peer for `wait` milliseconds at a time, 0 to 60,000."""
 
     def __init__(self, *functions, patience=1000, door_cost=100, version=2, room=1 << 22, wait=10):
         if len({inspect.isgeneratorfunction(it) for it in functions}) > 1:
             raise ValueError('either all functions yield their calls, or none')
+        if not 0 <= wait <= LONGEST_WAIT:
+            raise ValueError(f'a wait is 0 to {LONGEST_WAIT} milliseconds')
         self.functions = functions
         self.settings = Settings(len(functions), patience, door_cost, version, room)
         self.wait = wait
@@ -396,18 +402,16 @@ class Run:
 
     def _begun(self, begin, seed, file):
         place = ctypes.create_string_buffer(library.detio_run_size())
-        code = begin(place)
-        if code:
-            raise Stopped(code)
+        done(begin(place))
         keeper = Keeper(place, file)
         by_steps = {inspect.isgeneratorfunction(it) for it in self.functions} == {True}
         try:
             values, errors = (self._stepped if by_steps else self._threaded)(place, seed, keeper.keep)
             ended, length = RunEnd(), ctypes.c_size_t()
-            library.detio_run_finish(place, ended)
+            done(library.detio_run_finish(place, ended))
             keeper.keep()
             log = ctypes.create_string_buffer(max(ended.length, 1))
-            library.detio_run_log(place, 0, log, ended.length, length)
+            done(library.detio_run_log(place, 0, log, ended.length, length))
             return Result(values, errors, ENDED[ended.how], log.raw[:ended.length], seed, ended.thread)
         finally:
             library.detio_run_free(place)

@@ -8,6 +8,7 @@ import sys
 import tempfile
 import textwrap
 import unittest
+from unittest import mock
 
 import detio
 
@@ -262,6 +263,41 @@ class Runs(unittest.TestCase):
         for error in result.errors:
             self.assertIsInstance(error, detio.Stopped)
         self.assertEqual(result.how, 'stopped: the log has no room')
+
+
+    def test_waits_have_a_bound(self):
+        for wait in (-1, 60001, 1 << 31, (1 << 32) + 10):
+            with self.assertRaises(ValueError):
+                detio.Run(wait=wait)
+        for wait in (0, 60000):
+            self.assertEqual(detio.Run(lambda io: io.pipe(), wait=wait).record().check().values, [(0, 1)])
+
+    def test_an_end_that_is_refused_raises(self):
+        run = detio.Run(lambda io: io.pipe())
+        for name in ('detio_run_finish', 'detio_run_log'):
+            with mock.patch.object(detio.library, name, lambda *_: 8):
+                with self.assertRaises(detio.Stopped) as refused:
+                    run.record()
+            self.assertEqual(refused.exception.code, 8)
+        self.assertEqual(run.record().check().values, [(0, 1)])
+
+    def test_a_host_pipe_that_nobody_reads(self):
+        path = os.path.join(self.folder.name, 'fifo')
+        os.mkfifo(path)
+        reader = os.open(path, os.O_RDONLY | os.O_NONBLOCK)
+
+        def writes(io):
+            file = io.host_open(path, 'w')
+            os.close(reader)
+            io.write(file, b'x')
+
+        before = signal.signal(signal.SIGPIPE, signal.SIG_DFL)
+        try:
+            result = detio.Run(writes).record()
+        finally:
+            signal.signal(signal.SIGPIPE, before)
+        self.assertIsInstance(result.errors[0], BrokenPipeError)
+        self.assertEqual(result.how, 'ended')
 
 
 class Steps(unittest.TestCase):

@@ -31,6 +31,9 @@ pub const NONBLOCK: u32 = 16;
 /// The most bytes of a read or a write.
 pub const LARGEST: usize = 32767;
 
+/// The longest wait for a peer, in milliseconds.
+pub const LONGEST_WAIT: u32 = 60_000;
+
 pub use raw::{Call, RunEnd, Settings};
 
 impl Settings {
@@ -75,7 +78,8 @@ unsafe impl Sync for Run {}
 unsafe impl Send for Run {}
 
 impl Run {
-    /// A run begins. Streams and accepts wait for their peer for so many milliseconds at a time.
+    /// A run begins. Streams and accepts wait for their peer for so many milliseconds at a time, 0 to [`LONGEST_WAIT`]:
+    /// a longer wait is refused by code 13.
     pub fn record(settings: &Settings, wait: u32) -> Result<Run, Fault> {
         Run::begun(settings.threads, |place| unsafe { raw::detio_run_begin(place, settings, wait) })
     }

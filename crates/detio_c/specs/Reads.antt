@@ -1,6 +1,6 @@
 -- What C reads of the session in its handle, where a call of the library was done.
-use Rattle.std.specs.Prelude.{◌≡◌, ℕ, ◌≤◌, ◌-◌, Bool, true, false, List, length, map, take, drop}
-use Rattle.std.specs.Prelude.{min}
+use Rattle.std.specs.Prelude.{◌≡◌, ℕ, ◌≤◌, ◌<◌, ◌-◌, Bool, true, false, List, length, map, take}
+use Rattle.std.specs.Prelude.{drop, min}
 use Rattle.std.specs.Prelude.{get_or, slice_get, Option, Some, None, IfSome, IsSomeAnd, MatchOption}
 use Rattle.c_words.specs.Requests.{outside_words, text_of}
 use Rattle.c_words.specs.Words.{bytes_in, bytes_that_came, outcome_words, reply_words}
@@ -21,11 +21,16 @@ use Rattle.machine.specs.Events.{Tells}
 use Rattle.machine.specs.Finishing.{Finishes, have_ended}
 use Rattle.machine.specs.Requests.{IsRequest, out_of}
 use Rattle.machine.specs.Shown.{Shown}
+use Rattle.machine.specs.declared.stop.Stop.{Stop}
+use Rattle.machine.specs.declared.stop.Stop.TheVariants as stop
 use Rattle.posix_terms.specs.Outcomes.{suits}
 use Rattle.posix_terms.specs.declared.outcome.Given.{Given}
+use Rattle.posix_terms.specs.declared.outcome.Outcome.{Outcome}
 use Rattle.posix_terms.specs.declared.reply.Answer.TheVariants as answer
 use Rattle.posix_terms.specs.declared.reply.Reply.{Reply}
 use Rattle.posix_terms.specs.declared.request.Request.{Request}
+use Rattle.sequential_object.specs.declared.turn_end.TurnEnd.{TurnEnd}
+use Rattle.sequential_object.specs.declared.turn_end.TurnEnd.TheVariants as end
 use Rattle.detio_c.specs.Ends.{run_end, stop_of}
 use Rattle.detio_c.specs.declared.session.Session.{Session}
 
@@ -63,12 +68,25 @@ Rests m =
 
 -- ## A reply
 
--- thread i gets a reply, and C reads it, with its bytes at the front of the buffer, if they have
--- room there
+-- thread i gets a reply, and C reads it, with all of its bytes at the front of the buffer
 abbrev pub ReadsReply : ℕ → ReplyWords → ℕ → List ℕ → Shown ℕ → Type 0
 ReadsReply i words room buffer m =
     (r : Reply) × Tells (answer.Reply r) i m.whole × (words ≡ reply_words r)
-    × (length (bytes_in r) ≤ room → take (length (bytes_in r)) buffer ≡ bytes_in r)
+    × (length (bytes_in r) ≤ room) × (take (length (bytes_in r)) buffer ≡ bytes_in r)
+
+-- how many bytes the end of a turn has
+abbrev pub bytes_at_end : TurnEnd → ℕ
+bytes_at_end (end.Reply r) = length (bytes_in r)
+bytes_at_end (end.Blocked carried) = 0
+
+-- how many bytes came, if anything did
+abbrev pub bytes_came : Option Outcome → ℕ
+bytes_came (Some o) = length (bytes_that_came o)
+bytes_came None = 0
+
+-- a reply that thread i gets has no more bytes than this
+abbrev pub Brings : ℕ → ℕ → Shown ℕ → Type 0
+Brings i most m = (r : Reply) → Tells (answer.Reply r) i m.whole → length (bytes_in r) ≤ most
 
 -- thread i makes its call again
 abbrev pub MakesAgain : ℕ → Shown ℕ → Type 0
@@ -171,11 +189,17 @@ HasFinished words old new = IsSomeAnd old.machine (λ m. IsSomeAnd new.left
     × (words ≡ run_end left.stop (have_ended m.whole.threads) left.sink.bytes)))
     × (counts_of new ≡ counts_of old)
 
+-- this may be the thread that a stop names, if it names one
+abbrev pub MayName : ℕ → Stop → Type 0
+MayName threads (stop.EndOfLog thread) = thread < threads
+MayName threads (stop.Diverged thread number) = thread < threads
+MayName threads why = Unit {0}
+
 -- the machine is stopped for the cause with this number
 abbrev pub HasStopped : ℕ → ℕ → Session → Session → Type 0
-HasStopped cause i old new = IsSomeAnd (stop_of cause i (came_for old i)) (λ stop.
-    IsSomeAnd old.machine (λ m. (m.stop ≡ None)
-    × (new.machine ≡ Some (record m { stop = Some stop }))))
+HasStopped cause i old new = IsSomeAnd (stop_of cause i (came_for old i)) (λ why.
+    IsSomeAnd old.machine (λ m. (m.stop ≡ None) × MayName (length m.whole.threads) why
+    × (new.machine ≡ Some (record m { stop = Some why }))))
 
 -- what is true of two sessions, if both are there
 abbrev pub InBoth : Option Session → Option Session → (Session → Session → Type 0) → Type 0

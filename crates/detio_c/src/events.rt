@@ -1,4 +1,4 @@
-ghost use Rattle.std.specs.Prelude.{◌≡◌, ◌⊎◌, MatchResult, OnErr, OnOk, length};
+ghost use Rattle.std.specs.Prelude.{◌≡◌, ◌⊎◌, MatchResult, None, OnErr, OnOk, length};
 ghost use Rattle.lock_model.specs.Machine.Event.{Advances};
 ghost use Rattle.machine.specs.Runs.Coming.{Asks, Nothing};
 ghost use Rattle.posix_terms.specs.declared.step.Step.TheVariants as step;
@@ -63,6 +63,7 @@ pub extern "C" fn detio_ask(
     ensures grown { result ≡ 0
         → HasAsked call.now text.now second.now thread h.old.value h.new.value }
     ensures refused { IsRefusal result → h.new.value ≡ h.old.value }
+    ensures freed { h.old.value ≡ None → result ≡ 3 }
 {
     let Some(session) = taken(alloc, h) else {
         return LibraryFault::NoSession.code();
@@ -80,6 +81,7 @@ pub extern "C" fn detio_work(alloc: Global, h: &mut Handle, thread: usize, units
     ensures grown { result ≡ 0
         → HasGrown (Asks (step.Work units)) (Advances thread) h.old.value h.new.value }
     ensures refused { IsRefusal result → h.new.value ≡ h.old.value }
+    ensures freed { h.old.value ≡ None → result ≡ 3 }
 {
     let Some(session) = taken(alloc, h) else {
         return LibraryFault::NoSession.code();
@@ -97,6 +99,7 @@ pub extern "C" fn detio_end(alloc: Global, h: &mut Handle, thread: usize) -> u32
     ensures grown { result ≡ 0
         → HasGrown (Asks step.End) (Advances thread) h.old.value h.new.value }
     ensures refused { IsRefusal result → h.new.value ≡ h.old.value }
+    ensures freed { h.old.value ≡ None → result ≡ 3 }
 {
     let Some(session) = taken(alloc, h) else {
         return LibraryFault::NoSession.code();
@@ -114,6 +117,7 @@ pub extern "C" fn detio_again(alloc: Global, h: &mut Handle, thread: usize) -> u
     ensures grown { result ≡ 0
         → HasGrown Nothing (Advances thread) h.old.value h.new.value }
     ensures refused { IsRefusal result → h.new.value ≡ h.old.value }
+    ensures freed { h.old.value ≡ None → result ≡ 3 }
 {
     let Some(session) = taken(alloc, h) else {
         return LibraryFault::NoSession.code();
@@ -124,11 +128,14 @@ pub extern "C" fn detio_again(alloc: Global, h: &mut Handle, thread: usize) -> u
     code_of(made)
 }
 
-/// Makes the attempts that can be made: 1 where there may be more. At 0 whoever has the turn attempts no lock.
+/// Makes the attempts that can be made: 1 where there may be more. At 0 whoever has the turn attempts no lock. Where
+/// it is refused it made none.
 #[unsafe(no_mangle)]
 pub extern "C" fn detio_settle(alloc: Global, h: &mut Handle) -> u32
     ensures faithful { IsFaithfulIn h.new.value }
     ensures rests { result ≡ 0 → InMachine h.new.value Rests }
+    ensures refused { IsRefusal result → h.new.value ≡ h.old.value }
+    ensures freed { h.old.value ≡ None → result ≡ 3 }
 {
     let Some(session) = taken(alloc, h) else {
         return LibraryFault::NoSession.code();
@@ -149,6 +156,7 @@ pub extern "C" fn detio_phase(alloc: Global, h: &mut Handle, thread: usize, phas
     ensures faithful { IsFaithfulIn h.new.value }
     ensures phase { result ≡ 0 → InMachine h.old.value (IsAtPhase thread phase.new) }
     ensures refused { IsRefusal result → h.new.value ≡ h.old.value }
+    ensures freed { h.old.value ≡ None → result ≡ 3 }
 {
     let Some(session) = taken(alloc, h) else {
         return LibraryFault::NoSession.code();
@@ -176,6 +184,7 @@ pub extern "C" fn detio_has_turn(
     ensures faithful { IsFaithfulIn h.new.value }
     ensures turn { result ≡ 0 → InMachine h.old.value (HasTurn thread has.new) }
     ensures refused { IsRefusal result → h.new.value ≡ h.old.value }
+    ensures freed { h.old.value ≡ None → result ≡ 3 }
 {
     let Some(session) = taken(alloc, h) else {
         return LibraryFault::NoSession.code();
@@ -208,6 +217,7 @@ pub extern "C" fn detio_answer(
         → InMachine h.old.value (ReadsReply thread reply.new (length buffer.old) buffer.new) }
     ensures again { result ≡ 2 → InMachine h.old.value (MakesAgain thread) }
     ensures refused { IsRefusal result → h.new.value ≡ h.old.value }
+    ensures freed { h.old.value ≡ None → result ≡ 3 }
 {
     let Some(session) = taken(alloc, h) else {
         return LibraryFault::NoSession.code();
@@ -238,6 +248,7 @@ pub extern "C" fn detio_request(
     ensures request { result ≡ 0
         → InMachine h.old.value (ReadsRequest thread outside.new buffer.new) }
     ensures refused { IsRefusal result → h.new.value ≡ h.old.value }
+    ensures freed { h.old.value ≡ None → result ≡ 3 }
 {
     let Some(session) = taken(alloc, h) else {
         return LibraryFault::NoSession.code();
@@ -269,6 +280,7 @@ pub extern "C" fn detio_begin_outside(
     ensures door { result ≡ 0
         → InMachine h.old.value (λ m. ReadsDoor goes.new door.new (door_along thread m)) }
     ensures refused { IsRefusal result → h.new.value ≡ h.old.value }
+    ensures freed { h.old.value ≡ None → result ≡ 3 }
 {
     let Some(session) = taken(alloc, h) else {
         return LibraryFault::NoSession.code();
@@ -302,6 +314,7 @@ pub extern "C" fn detio_record(
     ensures faithful { IsFaithfulIn h.new.value }
     ensures grown { result ≡ 0 → HasCome outcome.now bytes.now thread h.old.value h.new.value }
     ensures refused { IsRefusal result → h.new.value ≡ h.old.value }
+    ensures freed { h.old.value ≡ None → result ≡ 3 }
 {
     let Some(session) = taken(alloc, h) else {
         return LibraryFault::NoSession.code();

@@ -18,7 +18,7 @@ fn begin(alloc: Global, h: &mut Handle, made: Result<Session, LibraryFault>) -> 
     ensures faithful { result ≡ 0 → IsFaithfulIn h.new.value }
     ensures begun { result ≡ 0
         → MatchResult made (λ session. h.new.value ≡ Some session) (λ _. ⊥) }
-    ensures refused { IsRefusal result → h.new.value ≡ h.old.value }
+    ensures refused { (result ≡ 0 → ⊥) → h.new.value ≡ h.old.value }
 {
     match made {
         Ok(session) => match Box::new(alloc, session) {
@@ -38,7 +38,7 @@ pub extern "C" fn detio_new(alloc: Global, h: &mut Handle, settings: &RunWords) 
     ensures faithful { result ≡ 0 → IsFaithfulIn h.new.value }
     ensures begun { result ≡ 0 → IsSomeAnd h.new.value
         (Begins (settings_said settings.now) settings.now.threads) }
-    ensures refused { IsRefusal result → h.new.value ≡ h.old.value }
+    ensures refused { (result ≡ 0 → ⊥) → h.new.value ≡ h.old.value }
 {
     begin(alloc, h, Session::new(alloc, settings))
 }
@@ -48,7 +48,7 @@ pub extern "C" fn detio_new(alloc: Global, h: &mut Handle, settings: &RunWords) 
 pub extern "C" fn detio_open_log(alloc: Global, h: &mut Handle, log: &[u8]) -> u32
     ensures faithful { result ≡ 0 → IsFaithfulIn h.new.value }
     ensures begun { result ≡ 0 → IsSomeAnd h.new.value (BeginsReplay log.now) }
-    ensures refused { IsRefusal result → h.new.value ≡ h.old.value }
+    ensures refused { (result ≡ 0 → ⊥) → h.new.value ≡ h.old.value }
 {
     begin(alloc, h, Session::replay(alloc, log))
 }
@@ -73,6 +73,7 @@ pub extern "C" fn detio_next(
     ensures faithful { IsFaithfulIn h.new.value }
     ensures next { result ≡ 0 → IsSomeAnd h.old.value (ReadsNext thread outcome.new buffer.new) }
     ensures refused { IsRefusal result → h.new.value ≡ h.old.value }
+    ensures freed { h.old.value ≡ None → result ≡ 3 }
 {
     let Some(session) = taken(alloc, h) else {
         return LibraryFault::NoSession.code();
@@ -95,6 +96,7 @@ pub extern "C" fn detio_unused(alloc: Global, h: &mut Handle, thread: usize, cou
     ensures faithful { IsFaithfulIn h.new.value }
     ensures count { result ≡ 0 → IsSomeAnd h.old.value (λ s. count.new ≡ unused_of s thread) }
     ensures refused { IsRefusal result → h.new.value ≡ h.old.value }
+    ensures freed { h.old.value ≡ None → result ≡ 3 }
 {
     let Some(session) = taken(alloc, h) else {
         return LibraryFault::NoSession.code();
@@ -117,6 +119,7 @@ pub extern "C" fn detio_stop(alloc: Global, h: &mut Handle, cause: u32, thread: 
     ensures faithful { IsFaithfulIn h.new.value }
     ensures done { result ≡ 0 → InBoth h.old.value h.new.value (HasStopped cause thread) }
     ensures refused { IsRefusal result → h.new.value ≡ h.old.value }
+    ensures freed { h.old.value ≡ None → result ≡ 3 }
 {
     let Some(session) = taken(alloc, h) else {
         return LibraryFault::NoSession.code();
@@ -136,6 +139,7 @@ pub extern "C" fn detio_finish(alloc: Global, h: &mut Handle, ended: &mut RunEnd
     ensures faithful { IsFaithfulIn h.new.value }
     ensures done { result ≡ 0 → InBoth h.old.value h.new.value (HasFinished ended.new) }
     ensures refused { IsRefusal result → h.new.value ≡ h.old.value }
+    ensures freed { h.old.value ≡ None → result ≡ 3 }
 {
     let Some(session) = taken(alloc, h) else {
         return LibraryFault::NoSession.code();
@@ -165,6 +169,7 @@ pub extern "C" fn detio_log(
     ensures log { result ≡ 0
         → IsSomeAnd h.old.value (ReadsLogOf from whole.new (length buffer.old) buffer.new) }
     ensures refused { IsRefusal result → h.new.value ≡ h.old.value }
+    ensures freed { h.old.value ≡ None → result ≡ 3 }
 {
     let Some(session) = taken(alloc, h) else {
         return LibraryFault::NoSession.code();

@@ -1,5 +1,5 @@
 ghost use Rattle.std.specs.Prelude.{◌≡◌, ◌<◌, ℕ, IfErr, IfOk, IfSome, IsSomeAnd, OnErr, OnOk};
-ghost use Rattle.std.specs.Prelude.{false, get_or, length, option_copied};
+ghost use Rattle.std.specs.Prelude.{false, get_or, length, option_copied, slice_get};
 ghost use Rattle.c_words.specs.Words.{outcome_of};
 ghost use Rattle.c_words.specs.declared.fault.LibraryFault.TheVariants as fault;
 ghost use Rattle.lock_machine.specs.Refusals.{phase_at};
@@ -13,7 +13,7 @@ ghost use Rattle.detio_c.specs.Promise.{BringsOutcome, GrowsBy};
 ghost use Rattle.detio_c.specs.Reads.{HasFinished, HasStopped, HasTurn, IsAtPhase, ReadsAnswer};
 ghost use Rattle.detio_c.specs.Reads.{ReadsLogOf, ReadsNext, ReadsRequest, Rests, came_for};
 ghost use Rattle.detio_c.specs.Reads.{counts_in, counts_of, door_along, next_logged, phase_code};
-ghost use Rattle.detio_c.specs.Reads.{unused_of, waits_in};
+ghost use Rattle.detio_c.specs.Reads.{Brings, bytes_at_end, bytes_came, unused_of, waits_in};
 
 use crate::ends::{doors_of, run_end};
 use crate::fault::fault_of;
@@ -24,7 +24,7 @@ use c_words::{
 use call_turns::TurnEnd;
 use input_log::{Header, LogWriter, MemorySink, Record, decode_front, outcomes_of};
 use machine::{Finished, Machine, Phase, Stop, are_in_range};
-use posix_terms::{Answer, Given, Limits, Outcome, Outcomes, Reply, Settings, Step};
+use posix_terms::{Answer, Given, Limits, Outcome, Outcomes, PackedRow, Reply, Settings, Step};
 use std::alloc::{AllocError, Global};
 
 /// What a handle holds: the machine of a run while it goes on, and then what it left. A door is a number of the
@@ -153,9 +153,11 @@ impl Session {
     }
 
     /// Makes the attempts that can be made, but not too many at once: whether there may be more. Where there are none,
-    /// whoever has the turn attempts no lock (`rests`).
+    /// whoever has the turn attempts no lock (`rests`). Where one is refused after others were made, there may be more:
+    /// then the next call makes none and is refused.
     pub fn settle(&mut self) -> Result<bool, LibraryFault>
         ensures rests { IfOk result (λ more. more ≡ false → IsSomeAnd self.new.machine Rests) }
+        ensures refused { OnErr result (self.new ≡ self.old) }
     {
         let Some(machine) = &mut self.machine else {
             return Err(LibraryFault::Over);
@@ -163,17 +165,14 @@ impl Session {
         if machine.stopped().is_some() {
             return Err(LibraryFault::Stopped);
         }
-        for _ in 0..ATTEMPTS {
-            let Some(i) = machine.turn_holder() else {
-                return Ok(false);
-            };
-            let made = match machine.phase(i) {
-                Phase::WantsTable { .. } => machine.try_table(i),
-                Phase::WantsObject { .. } => machine.try_node(i),
-                _ => return Ok(false),
-            };
-            if let Err(refused) = made {
-                return Err(fault_of(refused));
+        if !attempt(machine)? {
+            return Ok(false);
+        }
+        for _ in 1..ATTEMPTS {
+            match attempt(machine) {
+                Ok(true) => {}
+                Ok(false) => return Ok(false),
+                Err(_) => return Ok(true),
             }
         }
         Ok(true)
@@ -224,7 +223,13 @@ impl Session {
         if i >= machine.len() {
             return Err(LibraryFault::NoThread);
         }
-        if bytes_to_come(machine, i) > buffer.len() {
+        if machine.stopped().is_some() {
+            return Err(LibraryFault::Stopped);
+        }
+        let Some(most) = bytes_to_come(machine, i) else {
+            return Err(LibraryFault::WrongPhase);
+        };
+        if most > buffer.len() {
             return Err(LibraryFault::NoRoom);
         }
         match machine.answer(i) {
@@ -386,6 +391,9 @@ impl Session {
         let Some(machine) = &mut self.machine else {
             return Err(LibraryFault::Over);
         };
+        if (cause == 3 || cause == 4) && i >= machine.len() {
+            return Err(LibraryFault::NoThread);
+        }
         let stopped = match cause {
             1 => machine.stop(Stop::Memory),
             2 => machine.stop(Stop::ClockFull),
@@ -479,6 +487,25 @@ fn counts_in(alloc: Global, machine: &Machine<MemorySink, u64>) -> Result<Vec<u3
     Ok(came)
 }
 
+// Whether whoever has the turn attempts a lock now, which is done.
+fn attempt(machine: &mut Machine<MemorySink, u64>) -> Result<bool, LibraryFault>
+    ensures rests { IfOk result (λ made. made ≡ false → Rests machine.new) }
+    ensures refused { OnErr result (machine.new ≡ machine.old) }
+{
+    let Some(i) = machine.turn_holder() else {
+        return Ok(false);
+    };
+    let made = match machine.phase(i) {
+        Phase::WantsTable { .. } => machine.try_table(i),
+        Phase::WantsObject { .. } => machine.try_node(i),
+        _ => return Ok(false),
+    };
+    match made {
+        Ok(_) => Ok(true),
+        Err(refused) => Err(fault_of(refused)),
+    }
+}
+
 fn phase_code(phase: &Phase) -> u32
     ensures { result ≡ phase_code phase.now }
 {
@@ -505,22 +532,45 @@ fn waits_at(phase: &Phase) -> bool
     }
 }
 
-// How many bytes the reply of thread i will have.
-fn bytes_to_come(machine: &Machine<MemorySink, u64>, i: usize) -> usize
+// How many bytes the reply of thread i will have at most, if its call is about to be answered.
+fn bytes_to_come(machine: &Machine<MemorySink, u64>, i: usize) -> Option<usize>
     requires { i < length machine.now.whole.threads }
+    ensures { IfSome result (λ most. Brings i most machine.now) }
 {
+    let rows = machine.history();
     match machine.phase(i) {
-        Phase::Granted {
-            ends: TurnEnd::Reply(Reply::Data(bytes)),
-            ..
-        } => bytes.as_slice().len(),
-        Phase::Recorded(outing) => match machine.history().get(outing.row) {
-            Some(row) => match row.outcome() {
-                Some(Outcome::Ok { bytes, .. }) => bytes.as_slice().len(),
-                _ => 0,
-            },
-            None => 0,
+        Phase::Granted { ends, .. } => Some(bytes_at_end(ends)),
+        Phase::Recorded(outing) => match row_at(rows, outing.row) {
+            Some(row) => Some(bytes_came(row)),
+            None => None,
         },
+        _ => None,
+    }
+}
+
+// A row by its place.
+fn row_at(rows: &[PackedRow], place: usize) -> Option<&PackedRow>
+    ensures { option_copied result ≡ slice_get rows.now place }
+{
+    rows.get(place)
+}
+
+// How many bytes the end of a turn has.
+fn bytes_at_end(ends: &TurnEnd) -> usize
+    ensures { result ≡ bytes_at_end ends.now }
+{
+    match ends {
+        TurnEnd::Reply(Reply::Data(bytes)) => bytes.as_slice().len(),
+        _ => 0,
+    }
+}
+
+// How many bytes came for the call of a row, if anything did.
+fn bytes_came(row: &PackedRow) -> usize
+    ensures { result ≡ bytes_came row.now.outcome }
+{
+    match row.outcome() {
+        Some(Outcome::Ok { bytes, .. }) => bytes.as_slice().len(),
         _ => 0,
     }
 }

@@ -1,8 +1,9 @@
+use Rattle.std.proofs.Common.{rules}
 use Rattle.detio_c.proofs.session.Session.answer.Goals as goal
 use Rattle.detio_c.proofs.Reading.{reads}
 
--- src/session.rt:211:5
+-- src/session.rt:209:5
 pub returns-in-Ok-Reply-clause-words : goal.returns-in-Ok-Reply-clause-words
-returns-in-Ok-Reply-clause-words c = let o = c.in-Ok-Reply in
-    reads c.args.i o.field-0 o.reply _ _ c.in-Some.is o.field-0-is o.ensures.told c.reply_words.ensures.words
-    c.reply_words.ensures.bytes
+returns-in-Ok-Reply-clause-words c = let o = c.in-Ok-Reply in let b = c.in-Some-bytes_to_come in
+    reads c.args.i o.field-0 o.reply _ _ b.most c.in-Some.is o.field-0-is o.ensures.told b.ensures (search rules)
+    c.reply_words.ensures.words c.reply_words.ensures.bytes
