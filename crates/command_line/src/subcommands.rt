@@ -1,3 +1,7 @@
+ghost use Rattle.std.specs.Prelude.{◌≡◌, ◌∷◌, ◌++◌, [], IfOk, codes, take};
+ghost use Rattle.clap.specs.Words.{subcommand_names};
+ghost use Rattle.command_line.specs.Names.{all_names, name_of};
+
 use clap::{Arg, ArgAction, Command, value_parser};
 use std::alloc::{AllocError, Global};
 
@@ -716,30 +720,65 @@ prints at last
   end 2";
 
 /// The command line of the program.
-pub fn command<'a>(alloc: Global) -> Result<Command<'a>, AllocError> {
-    let subcommands = subcommands(alloc)?;
-    program(alloc)?.subcommands(subcommands)
+pub fn command<'a>(alloc: Global) -> Result<Command<'a>, AllocError>
+    ensures { IfOk result (λ c. subcommand_names c ≡ all_names) }
+{
+    let command = with_runs(alloc, program(alloc)?)?;
+    let command = with_logged_runs(alloc, command)?;
+    with_logs(alloc, command)
 }
 
-fn subcommands<'a>(alloc: Global) -> Result<Vec<Command<'a>>, AllocError> {
-    let mut subcommands = Vec::new(alloc);
-    subcommands.push(with_why(alloc, check(alloc)?)?)?;
-    subcommands.push(with_why(alloc, plain(alloc)?)?)?;
-    subcommands.push(with_why(alloc, explore(alloc)?)?)?;
-    subcommands.push(with_why(alloc, faults(alloc)?)?)?;
-    subcommands.push(with_why(alloc, minimise(alloc)?)?)?;
-    subcommands.push(with_why(alloc, record(alloc)?)?)?;
-    subcommands.push(with_why(alloc, replay(alloc)?)?)?;
-    subcommands.push(with_why(alloc, compare(alloc)?)?)?;
-    subcommands.push(with_why(alloc, draw(alloc)?)?)?;
-    subcommands.push(with_why(alloc, show(alloc)?)?)?;
-    subcommands.push(with_why(alloc, make(alloc)?)?)?;
-    subcommands.push(with_why(alloc, upgrade(alloc)?)?)?;
-    Ok(subcommands)
+// The program with the subcommands that take scripts alone, or outcomes of a log.
+fn with_runs<'a>(alloc: Global, command: Command<'a>) -> Result<Command<'a>, AllocError>
+    requires { subcommand_names command ≡ [] }
+    ensures { IfOk result (λ c. subcommand_names c ≡ take 5 all_names) }
+{
+    let command = with_subcommand(alloc, command, check(alloc)?)?;
+    let command = with_subcommand(alloc, command, plain(alloc)?)?;
+    let command = with_subcommand(alloc, command, explore(alloc)?)?;
+    let command = with_subcommand(alloc, command, faults(alloc)?)?;
+    with_subcommand(alloc, command, minimise(alloc)?)
+}
+
+// And with those that run scripts with a log.
+fn with_logged_runs<'a>(alloc: Global, command: Command<'a>) -> Result<Command<'a>, AllocError>
+    requires { subcommand_names command ≡ take 5 all_names }
+    ensures { IfOk result (λ c. subcommand_names c ≡ take 9 all_names) }
+{
+    let command = with_subcommand(alloc, command, record(alloc)?)?;
+    let command = with_subcommand(alloc, command, replay(alloc)?)?;
+    let command = with_subcommand(alloc, command, compare(alloc)?)?;
+    with_subcommand(alloc, command, draw(alloc)?)
+}
+
+// And with those that turn a log into something else.
+#[tactic(auto, using(crate::proofs::Named::next))]
+fn with_logs<'a>(alloc: Global, command: Command<'a>) -> Result<Command<'a>, AllocError>
+    requires { subcommand_names command ≡ take 9 all_names }
+    ensures { IfOk result (λ c. subcommand_names c ≡ all_names) }
+{
+    let command = with_subcommand(alloc, command, show(alloc)?)?;
+    let command = with_subcommand(alloc, command, make(alloc)?)?;
+    with_subcommand(alloc, command, upgrade(alloc)?)
+}
+
+// The program with one more subcommand, which may say why the host refused something.
+#[tactic(auto, using(crate::proofs::Named::one_more))]
+fn with_subcommand<'a>(
+    alloc: Global,
+    command: Command<'a>,
+    subcommand: Command<'a>,
+) -> Result<Command<'a>, AllocError>
+    ensures { IfOk result (λ c. subcommand_names c
+        ≡ subcommand_names command.entry ++ name_of subcommand.entry ∷ []) }
+{
+    command.subcommand(with_why(alloc, subcommand)?)
 }
 
 // A subcommand that may say why the host refused something.
-fn with_why<'a>(alloc: Global, command: Command<'a>) -> Result<Command<'a>, AllocError> {
+fn with_why<'a>(alloc: Global, command: Command<'a>) -> Result<Command<'a>, AllocError>
+    ensures { IfOk result (λ c. name_of c ≡ name_of command.entry) }
+{
     let why = Arg::new(alloc, "why")
         .long("why")
         .action(ArgAction::SetTrue)
@@ -748,7 +787,9 @@ fn with_why<'a>(alloc: Global, command: Command<'a>) -> Result<Command<'a>, Allo
 }
 
 // The program with no subcommand.
-fn program<'a>(alloc: Global) -> Result<Command<'a>, AllocError> {
+fn program<'a>(alloc: Global) -> Result<Command<'a>, AllocError>
+    ensures { IfOk result (λ c. subcommand_names c ≡ []) }
+{
     wants_subcommand(Command::new(alloc, "detio"))
         .version("0.19.0")
         .about(ABOUT)
@@ -756,7 +797,9 @@ fn program<'a>(alloc: Global) -> Result<Command<'a>, AllocError> {
         .bin_name("detio")
 }
 
-fn wants_subcommand(command: Command<'_>) -> Command<'_> {
+fn wants_subcommand(command: Command<'_>) -> Command<'_>
+    ensures { subcommand_names result ≡ subcommand_names command.entry }
+{
     command
         .subcommand_required(true)
         .arg_required_else_help(true)
@@ -769,14 +812,18 @@ fn described<'a>(
     about: &'a str,
     long_about: &'a str,
     after_help: &'a str,
-) -> Command<'a> {
+) -> Command<'a>
+    ensures { name_of result ≡ name.entry.now }
+{
     Command::new(alloc, name)
         .about(about)
         .long_about(long_about)
         .after_help(after_help)
 }
 
-fn check<'a>(alloc: Global) -> Result<Command<'a>, AllocError> {
+fn check<'a>(alloc: Global) -> Result<Command<'a>, AllocError>
+    ensures { IfOk result (λ c. name_of c ≡ codes "check") }
+{
     let scripts = scripts(alloc).help("The scripts to check, 1 to 16");
     described(
         alloc,
@@ -788,7 +835,9 @@ fn check<'a>(alloc: Global) -> Result<Command<'a>, AllocError> {
     .arg(scripts)
 }
 
-fn plain<'a>(alloc: Global) -> Result<Command<'a>, AllocError> {
+fn plain<'a>(alloc: Global) -> Result<Command<'a>, AllocError>
+    ensures { IfOk result (λ c. name_of c ≡ codes "plain") }
+{
     let patience = patience(alloc);
     let command = described(
         alloc,
@@ -809,7 +858,9 @@ fn patience<'a>(alloc: Global) -> Arg<'a> {
     )
 }
 
-fn with_door_cost<'a>(alloc: Global, command: Command<'a>) -> Result<Command<'a>, AllocError> {
+fn with_door_cost<'a>(alloc: Global, command: Command<'a>) -> Result<Command<'a>, AllocError>
+    ensures { IfOk result (λ c. name_of c ≡ name_of command.entry) }
+{
     with_scripts(alloc, command.arg(door_cost(alloc))?)
 }
 
@@ -822,7 +873,9 @@ fn door_cost<'a>(alloc: Global) -> Arg<'a> {
     )
 }
 
-fn explore<'a>(alloc: Global) -> Result<Command<'a>, AllocError> {
+fn explore<'a>(alloc: Global) -> Result<Command<'a>, AllocError>
+    ensures { IfOk result (λ c. name_of c ≡ codes "explore") }
+{
     let command = described(
         alloc,
         "explore",
@@ -920,7 +973,9 @@ fn reach<'a>(alloc: Global) -> Arg<'a> {
         .help("The longest delay of a call, in units of its thread's clock")
 }
 
-fn faults<'a>(alloc: Global) -> Result<Command<'a>, AllocError> {
+fn faults<'a>(alloc: Global) -> Result<Command<'a>, AllocError>
+    ensures { IfOk result (λ c. name_of c ≡ codes "faults") }
+{
     let log = log(
         alloc,
         "The log whose outcomes are replaced; - is standard input",
@@ -938,7 +993,9 @@ fn faults<'a>(alloc: Global) -> Result<Command<'a>, AllocError> {
     command.arg(jobs(alloc))?.arg(scripts(alloc))
 }
 
-fn minimise<'a>(alloc: Global) -> Result<Command<'a>, AllocError> {
+fn minimise<'a>(alloc: Global) -> Result<Command<'a>, AllocError>
+    ensures { IfOk result (λ c. name_of c ≡ codes "minimise") }
+{
     let command = described(
         alloc,
         "minimise",
@@ -959,7 +1016,9 @@ fn minimise<'a>(alloc: Global) -> Result<Command<'a>, AllocError> {
 const CASE: &[&str] = &["THREAD", "NUMBER", "ERROR"];
 
 // One case, and where its log goes: both, or neither.
-fn with_one_case<'a>(alloc: Global, command: Command<'a>) -> Result<Command<'a>, AllocError> {
+fn with_one_case<'a>(alloc: Global, command: Command<'a>) -> Result<Command<'a>, AllocError>
+    ensures { IfOk result (λ c. name_of c ≡ name_of command.entry) }
+{
     let only = Arg::new(alloc, "only")
         .long("only")
         .num_args(3)
@@ -1001,7 +1060,9 @@ fn then<'a>(alloc: Global) -> Result<Arg<'a>, AllocError> {
     )
 }
 
-fn record<'a>(alloc: Global) -> Result<Command<'a>, AllocError> {
+fn record<'a>(alloc: Global) -> Result<Command<'a>, AllocError>
+    ensures { IfOk result (λ c. name_of c ≡ codes "record") }
+{
     let log = log(alloc, "The log to write");
     let force = force(alloc, "Replaces a file at the log's path that is not a log");
     let patience = patience(alloc);
@@ -1057,7 +1118,9 @@ fn follow<'a>(alloc: Global) -> Arg<'a> {
         .help("Prints each row on standard error too, once its call has a reply")
 }
 
-fn replay<'a>(alloc: Global) -> Result<Command<'a>, AllocError> {
+fn replay<'a>(alloc: Global) -> Result<Command<'a>, AllocError>
+    ensures { IfOk result (λ c. name_of c ≡ codes "replay") }
+{
     let log = log(alloc, "The log to replay; - is standard input");
     let command = described(
         alloc,
@@ -1076,7 +1139,9 @@ fn threads<'a>(alloc: Global) -> Arg<'a> {
         .help("Runs each script in a thread of its own")
 }
 
-fn compare<'a>(alloc: Global) -> Result<Command<'a>, AllocError> {
+fn compare<'a>(alloc: Global) -> Result<Command<'a>, AllocError>
+    ensures { IfOk result (λ c. name_of c ≡ codes "compare") }
+{
     let log = log(alloc, "One log to replay; - is standard input");
     let with = file(alloc, "with", "The log to compare it with");
     let command = described(
@@ -1105,7 +1170,9 @@ fn no_turns<'a>(alloc: Global) -> Arg<'a> {
         .help("Compares calls and replies alone, whatever the clocks of their turns")
 }
 
-fn draw<'a>(alloc: Global) -> Result<Command<'a>, AllocError> {
+fn draw<'a>(alloc: Global) -> Result<Command<'a>, AllocError>
+    ensures { IfOk result (λ c. name_of c ≡ codes "draw") }
+{
     let out = Arg::new(alloc, "out")
         .long("out")
         .value_name("FILE")
@@ -1127,14 +1194,18 @@ fn draw<'a>(alloc: Global) -> Result<Command<'a>, AllocError> {
     command.arg(scripts(alloc))
 }
 
-fn show<'a>(alloc: Global) -> Result<Command<'a>, AllocError> {
+fn show<'a>(alloc: Global) -> Result<Command<'a>, AllocError>
+    ensures { IfOk result (λ c. name_of c ≡ codes "show") }
+{
     let log = log(alloc, "The log to print; - is standard input");
     described(alloc, "show", SHOW_ABOUT, SHOW_LONG_ABOUT, SHOW_AFTER_HELP)
         .arg(log)?
         .arg(json(alloc))
 }
 
-fn make<'a>(alloc: Global) -> Result<Command<'a>, AllocError> {
+fn make<'a>(alloc: Global) -> Result<Command<'a>, AllocError>
+    ensures { IfOk result (λ c. name_of c ≡ codes "make") }
+{
     let out = file(alloc, "out", "The log to write");
     let force = force(alloc, "Replaces a file at the log's path that is not a log");
     let text = Arg::new(alloc, "text")
@@ -1145,7 +1216,9 @@ fn make<'a>(alloc: Global) -> Result<Command<'a>, AllocError> {
     command.arg(out)?.arg(force)?.arg(text)
 }
 
-fn upgrade<'a>(alloc: Global) -> Result<Command<'a>, AllocError> {
+fn upgrade<'a>(alloc: Global) -> Result<Command<'a>, AllocError>
+    ensures { IfOk result (λ c. name_of c ≡ codes "upgrade") }
+{
     let log = log(alloc, "The log of version 1; - is standard input");
     let out = file(alloc, "out", "The log of version 2 to write");
     let force = force(
@@ -1164,7 +1237,9 @@ fn upgrade<'a>(alloc: Global) -> Result<Command<'a>, AllocError> {
 }
 
 // A subcommand that runs scripts.
-fn with_scripts<'a>(alloc: Global, command: Command<'a>) -> Result<Command<'a>, AllocError> {
+fn with_scripts<'a>(alloc: Global, command: Command<'a>) -> Result<Command<'a>, AllocError>
+    ensures { IfOk result (λ c. name_of c ≡ name_of command.entry) }
+{
     let command = command.arg(turns(alloc))?.arg(calls(alloc))?;
     let command = command
         .arg(by_turn(alloc))?
