@@ -1,7 +1,7 @@
 -- A reply that a machine gives has no more bytes than ends its call, or than came for it.
-use Rattle.std.proofs.Common.{◌≡◌, ℕ, zero, suc, ◌+◌, ◌<◌, ◌≤◌, List, [], ◌∷◌, ◌++◌, length, map}
+use Rattle.std.proofs.Common.{◌≡◌, ℕ, zero, suc, ◌+◌, ◌<◌, ◌≤◌, List, [], ◌∷◌, ◌++◌, length}
 use Rattle.std.proofs.Common.{Option, Some, None, Bool}
-use Rattle.std.proofs.Common.{true, false, slice_get, sym, refl, ap, ◌∙◌, subst, arith}
+use Rattle.std.proofs.Common.{true, false, slice_get, sym, ap, ◌∙◌, subst, arith}
 use Rattle.std.proofs.lemmas.List.{append_cancel_left, get_or-set_same, length-append}
 use Rattle.std.proofs.lemmas.Option.{none-some, same_Some, slice_get-map}
 use Rattle.std.specs.Prelude.{Result, Ok, Err, if◌then◌else◌, option_map, pos}
@@ -19,7 +19,7 @@ use Rattle.posix_terms.specs.declared.transcript.Settings.{Settings}
 use Rattle.sequential_object.specs.Acts as ending
 use Rattle.sequential_object.specs.Acts.{Ending}
 use Rattle.sequential_object.specs.Answers.{answer_in, outcome_in}
-use Rattle.sequential_object.specs.Effects.{Asking, Effect}
+use Rattle.sequential_object.specs.Effects.{Asking}
 use Rattle.sequential_object.specs.Changes.{changed, door_opened}
 use Rattle.sequential_object.specs.Decided.{decided}
 use Rattle.sequential_object.specs.Meant.{ended, meant, reply_outside, request_asked, request_kind, seen}

@@ -1,11 +1,15 @@
 -- What each export promises of the session in its handle.
-use Rattle.std.specs.Prelude.{◌≡◌, ℕ, ◌+◌, List, Option, Some, None, IfSome}
+use Rattle.std.specs.Prelude.{◌≡◌, ◌≤◌, ℕ, ◌+◌, zero, suc, Bool, true, false, List}
+use Rattle.std.specs.Prelude.{if◌then◌else◌}
+use Rattle.std.specs.Prelude.{Option, Some, None, IfSome, IsSomeAnd}
 use Rattle.lock_model.specs.Machine.{Event}
-use Rattle.lock_model.specs.Machine.Event.{Advances}
+use Rattle.lock_model.specs.Machine.Event.{Advances, Attempts}
+use Rattle.lock_machine.specs.Views.{clocks_of}
 use Rattle.lock_machine.specs.Whole.{thread_at}
+use Rattle.logical_clocks.specs.TurnOrder.{turn_holder}
 use Rattle.machine.specs.Faithful.{IsFaithful}
 use Rattle.machine.specs.Runs.{Coming, Grows}
-use Rattle.machine.specs.Runs.Coming.{Asks, Brings}
+use Rattle.machine.specs.Runs.Coming.{Asks, Brings, Nothing}
 use Rattle.machine.specs.Shown.{Shown}
 use Rattle.posix_terms.specs.Calls.{Call}
 use Rattle.posix_terms.specs.declared.outcome.Given.{Given}
@@ -31,9 +35,13 @@ abbrev pub GrowsBy : Coming → Event → Option (Shown ℕ) → Option (Shown �
 GrowsBy c e (Some old) (Some new) = Grows c e old.whole new.whole
 GrowsBy c e old new = ⊥
 
+-- nothing but the machine of the session has changed
+abbrev pub KeepsRest : Session → Session → Type 0
+KeepsRest old new = new ≡ record old { machine = new.machine }
+
 -- the run of the session has
 abbrev pub HasGrown : Coming → Event → Option Session → Option Session → Type 0
-HasGrown c e (Some old) (Some new) = GrowsBy c e old.machine new.machine
+HasGrown c e (Some old) (Some new) = KeepsRest old new × GrowsBy c e old.machine new.machine
 HasGrown c e old new = ⊥
 
 -- the run has grown by this call, if there is one
@@ -44,7 +52,7 @@ AsksCall None i old new = ⊥
 -- the run of the session has grown by the call that C says
 abbrev pub HasAsked : CallWords → List ℕ → List ℕ → ℕ → Option Session → Option Session → Type 0
 HasAsked words text second i (Some old) (Some new) =
-    AsksCall (call_of words text second) i old.machine new.machine
+    KeepsRest old new × AsksCall (call_of words text second) i old.machine new.machine
 HasAsked words text second i old new = ⊥
 
 -- one outcome more came for thread i
@@ -63,5 +71,38 @@ BringsOutcome None i old new = ⊥
 -- the run of the session has grown by the outcome that C says
 abbrev pub HasCome : OutcomeWords → List ℕ → ℕ → Option Session → Option Session → Type 0
 HasCome words bytes i (Some old) (Some new) =
-    BringsOutcome (outcome_of words bytes) i old.machine new.machine
+    KeepsRest old new × BringsOutcome (outcome_of words bytes) i old.machine new.machine
 HasCome words bytes i old new = ⊥
+
+-- ## Attempts
+
+-- whoever has the turn made an attempt, and nothing else happened
+abbrev pub HasAttempted : Shown ℕ → Shown ℕ → Type 0
+HasAttempted old new =
+    IsSomeAnd (turn_holder (clocks_of old.whole.threads))
+    (λ i. Grows Nothing (Attempts i) old.whole new.whole)
+    × (new ≡ record old { whole = new.whole })
+
+-- an attempt was made, or nothing happened
+abbrev pub MayHaveAttempted : Bool → Shown ℕ → Shown ℕ → Type 0
+MayHaveAttempted true old new = HasAttempted old new
+MayHaveAttempted false old new = new ≡ old
+
+-- so many attempts lead from one machine to the other
+abbrev pub AttemptsLead : ℕ → Shown ℕ → Shown ℕ → Type 0
+AttemptsLead zero old new = new ≡ old
+AttemptsLead (suc n) old new =
+    (between : Shown ℕ) × AttemptsLead n old between × HasAttempted between new
+
+-- how many attempts were made at least, where there may be more
+abbrev pub least_of : Bool → ℕ
+least_of more = if more then 1 else 0
+
+-- this many attempts, or more, do
+abbrev pub LeadsBy : ℕ → Shown ℕ → Shown ℕ → Type 0
+LeadsBy least old new = (count : ℕ) × (least ≤ count) × AttemptsLead count old new
+
+-- this many attempts, or more, were made in the session, and nothing else happened
+abbrev pub HasSettled : ℕ → Session → Session → Type 0
+HasSettled least old new =
+    KeepsRest old new × IsSomeAnd old.machine (λ m. IsSomeAnd new.machine (LeadsBy least m))

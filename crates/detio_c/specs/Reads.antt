@@ -182,12 +182,13 @@ ReadsLogOf from n room buffer s =
     MatchOption s.machine (IsSomeAnd s.left (λ left. ReadsLog from n room buffer left.sink.bytes))
     (λ m. ReadsLog from n room buffer m.log.taken)
 
--- the machine is finished, C reads how it ended, and how many outcomes came is kept
+-- the machine is finished, C reads how it ended, and how many outcomes came is kept, with what a
+-- replay's log has
 abbrev pub HasFinished : RunEnd → Session → Session → Type 0
 HasFinished words old new = IsSomeAnd old.machine (λ m. IsSomeAnd new.left
     (λ left. Finishes m left.sink.bytes left.sink.failures left.stop
     × (words ≡ run_end left.stop (have_ended m.whole.threads) left.sink.bytes)))
-    × (counts_of new ≡ counts_of old)
+    × (counts_of new ≡ counts_of old) × (new.logged ≡ old.logged)
 
 -- this may be the thread that a stop names, if it names one
 abbrev pub MayName : ℕ → Stop → Type 0
@@ -199,7 +200,7 @@ MayName threads why = Unit {0}
 abbrev pub HasStopped : ℕ → ℕ → Session → Session → Type 0
 HasStopped cause i old new = IsSomeAnd (stop_of cause i (came_for old i)) (λ why.
     IsSomeAnd old.machine (λ m. (m.stop ≡ None) × MayName (length m.whole.threads) why
-    × (new.machine ≡ Some (record m { stop = Some why }))))
+    × (new ≡ record old { machine = Some (record m { stop = Some why }) })))
 
 -- what is true of two sessions, if both are there
 abbrev pub InBoth : Option Session → Option Session → (Session → Session → Type 0) → Type 0

@@ -4,9 +4,9 @@ ghost use Rattle.machine.specs.Runs.Coming.{Asks, Nothing};
 ghost use Rattle.posix_terms.specs.declared.step.Step.TheVariants as step;
 ghost use Rattle.c_words.specs.Calls.{call_of};
 ghost use Rattle.c_words.specs.Faults.{code_of};
-ghost use Rattle.detio_c.specs.Promise.{AsksCall, HasAsked, HasCome, HasGrown, IsFaithfulIn};
-ghost use Rattle.detio_c.specs.Promise.{IsRefusal};
-ghost use Rattle.detio_c.specs.Reads.{HasTurn, InMachine, IsAtPhase, MakesAgain, ReadsDoor};
+ghost use Rattle.detio_c.specs.Promise.{AsksCall, HasAsked, HasCome, HasGrown, HasSettled};
+ghost use Rattle.detio_c.specs.Promise.{IsFaithfulIn, IsRefusal, KeepsRest};
+ghost use Rattle.detio_c.specs.Reads.{HasTurn, InBoth, InMachine, IsAtPhase, MakesAgain, ReadsDoor};
 ghost use Rattle.detio_c.specs.Reads.{ReadsReply, ReadsRequest, Rests, door_along};
 
 use crate::handle::Handle;
@@ -42,6 +42,7 @@ fn ask_call(
     text: &[u8],
     second: &[u8],
 ) -> Result<(), LibraryFault>
+    ensures rest { KeepsRest session.old session.new }
     ensures refused { OnErr result (session.new ≡ session.old) }
     ensures grown { OnOk result (AsksCall (call_of call.now text.now second.now) thread
         session.old.machine session.new.machine) }
@@ -134,6 +135,8 @@ pub extern "C" fn detio_again(alloc: Global, h: &mut Handle, thread: usize) -> u
 pub extern "C" fn detio_settle(alloc: Global, h: &mut Handle) -> u32
     ensures faithful { IsFaithfulIn h.new.value }
     ensures rests { result ≡ 0 → InMachine h.new.value Rests }
+    ensures attempts { (result ≡ 0) ⊎ (result ≡ 1)
+        → InBoth h.old.value h.new.value (HasSettled result) }
     ensures refused { IsRefusal result → h.new.value ≡ h.old.value }
     ensures freed { h.old.value ≡ None → result ≡ 3 }
 {
@@ -155,7 +158,7 @@ pub extern "C" fn detio_settle(alloc: Global, h: &mut Handle) -> u32
 pub extern "C" fn detio_phase(alloc: Global, h: &mut Handle, thread: usize, phase: &mut u32) -> u32
     ensures faithful { IsFaithfulIn h.new.value }
     ensures phase { result ≡ 0 → InMachine h.old.value (IsAtPhase thread phase.new) }
-    ensures refused { IsRefusal result → h.new.value ≡ h.old.value }
+    ensures unchanged { h.new.value ≡ h.old.value }
     ensures freed { h.old.value ≡ None → result ≡ 3 }
 {
     let Some(session) = taken(alloc, h) else {
@@ -183,7 +186,7 @@ pub extern "C" fn detio_has_turn(
 ) -> u32
     ensures faithful { IsFaithfulIn h.new.value }
     ensures turn { result ≡ 0 → InMachine h.old.value (HasTurn thread has.new) }
-    ensures refused { IsRefusal result → h.new.value ≡ h.old.value }
+    ensures unchanged { h.new.value ≡ h.old.value }
     ensures freed { h.old.value ≡ None → result ≡ 3 }
 {
     let Some(session) = taken(alloc, h) else {
@@ -247,7 +250,7 @@ pub extern "C" fn detio_request(
     ensures faithful { IsFaithfulIn h.new.value }
     ensures request { result ≡ 0
         → InMachine h.old.value (ReadsRequest thread outside.new buffer.new) }
-    ensures refused { IsRefusal result → h.new.value ≡ h.old.value }
+    ensures unchanged { h.new.value ≡ h.old.value }
     ensures freed { h.old.value ≡ None → result ≡ 3 }
 {
     let Some(session) = taken(alloc, h) else {

@@ -61,7 +61,7 @@ pub extern "C" fn detio_free(alloc: Global, h: &mut Handle)
     *h = Handle::empty(alloc);
 }
 
-/// Of a replay, what its log has next for the thread. It changes nothing.
+/// Of a replay, what its log has next for the thread.
 #[unsafe(no_mangle)]
 pub extern "C" fn detio_next(
     alloc: Global,
@@ -72,7 +72,7 @@ pub extern "C" fn detio_next(
 ) -> u32
     ensures faithful { IsFaithfulIn h.new.value }
     ensures next { result ≡ 0 → IsSomeAnd h.old.value (ReadsNext thread outcome.new buffer.new) }
-    ensures refused { IsRefusal result → h.new.value ≡ h.old.value }
+    ensures unchanged { h.new.value ≡ h.old.value }
     ensures freed { h.old.value ≡ None → result ≡ 3 }
 {
     let Some(session) = taken(alloc, h) else {
@@ -90,12 +90,12 @@ pub extern "C" fn detio_next(
     }
 }
 
-/// Of a replay, how many records of the thread did not come. It changes nothing.
+/// Of a replay, how many records of the thread did not come.
 #[unsafe(no_mangle)]
 pub extern "C" fn detio_unused(alloc: Global, h: &mut Handle, thread: usize, count: &mut u64) -> u32
     ensures faithful { IsFaithfulIn h.new.value }
     ensures count { result ≡ 0 → IsSomeAnd h.old.value (λ s. count.new ≡ unused_of s thread) }
-    ensures refused { IsRefusal result → h.new.value ≡ h.old.value }
+    ensures unchanged { h.new.value ≡ h.old.value }
     ensures freed { h.old.value ≡ None → result ≡ 3 }
 {
     let Some(session) = taken(alloc, h) else {
@@ -168,7 +168,7 @@ pub extern "C" fn detio_log(
     ensures faithful { IsFaithfulIn h.new.value }
     ensures log { result ≡ 0
         → IsSomeAnd h.old.value (ReadsLogOf from whole.new (length buffer.old) buffer.new) }
-    ensures refused { IsRefusal result → h.new.value ≡ h.old.value }
+    ensures unchanged { h.new.value ≡ h.old.value }
     ensures freed { h.old.value ≡ None → result ≡ 3 }
 {
     let Some(session) = taken(alloc, h) else {

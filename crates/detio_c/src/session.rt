@@ -9,7 +9,8 @@ ghost use Rattle.machine.specs.Requests.{out_of};
 ghost use Rattle.machine.specs.Runs.Coming.{Asks, Nothing};
 ghost use Rattle.posix_terms.specs.declared.step.Step.TheVariants as step;
 ghost use Rattle.detio_c.specs.Begun.{Begins, BeginsReplay, outcomes_by, settings_said};
-ghost use Rattle.detio_c.specs.Promise.{BringsOutcome, GrowsBy};
+ghost use Rattle.detio_c.specs.Promise.{BringsOutcome, GrowsBy, HasSettled, KeepsRest, LeadsBy};
+ghost use Rattle.detio_c.specs.Promise.{MayHaveAttempted, least_of};
 ghost use Rattle.detio_c.specs.Reads.{HasFinished, HasStopped, HasTurn, IsAtPhase, ReadsAnswer};
 ghost use Rattle.detio_c.specs.Reads.{ReadsLogOf, ReadsNext, ReadsRequest, Rests, came_for};
 ghost use Rattle.detio_c.specs.Reads.{counts_in, counts_of, door_along, next_logged, phase_code};
@@ -109,6 +110,7 @@ impl Session {
 
     /// Thread i asks this step, which is not its end.
     pub fn ask(&mut self, i: usize, asked: Step) -> Result<(), LibraryFault>
+        ensures rest { KeepsRest self.old self.new }
         ensures grown { OnOk result
             (GrowsBy (Asks asked) (Advances i) self.old.machine self.new.machine) }
         ensures refused { OnErr result (self.new ≡ self.old) }
@@ -124,6 +126,7 @@ impl Session {
 
     /// Thread i ends.
     pub fn end(&mut self, i: usize) -> Result<(), LibraryFault>
+        ensures rest { KeepsRest self.old self.new }
         ensures grown { OnOk result
             (GrowsBy (Asks step.End) (Advances i) self.old.machine self.new.machine) }
         ensures refused { OnErr result (self.new ≡ self.old) }
@@ -139,6 +142,7 @@ impl Session {
 
     /// Thread i makes its blocked call again.
     pub fn again(&mut self, i: usize) -> Result<(), LibraryFault>
+        ensures rest { KeepsRest self.old self.new }
         ensures grown { OnOk result
             (GrowsBy Nothing (Advances i) self.old.machine self.new.machine) }
         ensures refused { OnErr result (self.new ≡ self.old) }
@@ -157,6 +161,7 @@ impl Session {
     /// then the next call makes none and is refused.
     pub fn settle(&mut self) -> Result<bool, LibraryFault>
         ensures rests { IfOk result (λ more. more ≡ false → IsSomeAnd self.new.machine Rests) }
+        ensures attempts { IfOk result (λ more. HasSettled (least_of more) self.old self.new) }
         ensures refused { OnErr result (self.new ≡ self.old) }
     {
         let Some(machine) = &mut self.machine else {
@@ -165,17 +170,7 @@ impl Session {
         if machine.stopped().is_some() {
             return Err(LibraryFault::Stopped);
         }
-        if !attempt(machine)? {
-            return Ok(false);
-        }
-        for _ in 1..ATTEMPTS {
-            match attempt(machine) {
-                Ok(true) => {}
-                Ok(false) => return Ok(false),
-                Err(_) => return Ok(true),
-            }
-        }
-        Ok(true)
+        attempts(machine)
     }
 
     /// Where thread i is, as C knows it.
@@ -211,6 +206,7 @@ impl Session {
         i: usize,
         buffer: &mut [u8],
     ) -> Result<Option<ReplyWords>, LibraryFault>
+        ensures rest { KeepsRest self.old self.new }
         ensures grown { OnOk result
             (GrowsBy Nothing (Advances i) self.old.machine self.new.machine) }
         ensures words { IfOk result (λ words. IsSomeAnd self.old.machine
@@ -261,6 +257,7 @@ impl Session {
 
     /// Thread i goes outside, with the door that is given, if one goes along.
     pub fn begin_outside(&mut self, i: usize) -> Result<Option<u64>, LibraryFault>
+        ensures rest { KeepsRest self.old self.new }
         ensures grown { OnOk result
             (GrowsBy Nothing (Advances i) self.old.machine self.new.machine) }
         ensures door { IfOk result (λ door. IsSomeAnd self.old.machine
@@ -284,6 +281,7 @@ impl Session {
         words: &OutcomeWords,
         bytes: &[u8],
     ) -> Result<(), LibraryFault>
+        ensures rest { KeepsRest self.old self.new }
         ensures grown { OnOk result (BringsOutcome (outcome_of words.now bytes.now) i
             self.old.machine self.new.machine) }
         ensures refused { IfErr result (λ f. (f ≡ fault.LogFull → ⊥) → self.new ≡ self.old) }
@@ -487,9 +485,30 @@ fn counts_in(alloc: Global, machine: &Machine<MemorySink, u64>) -> Result<Vec<u3
     Ok(came)
 }
 
+// Makes the attempts that can be made, but not too many: whether there may be more. Where the first is refused, so is
+// this.
+fn attempts(machine: &mut Machine<MemorySink, u64>) -> Result<bool, LibraryFault>
+    ensures rests { IfOk result (λ more. more ≡ false → Rests machine.new) }
+    ensures attempts { IfOk result (λ more. LeadsBy (least_of more) machine.old machine.new) }
+    ensures refused { OnErr result (machine.new ≡ machine.old) }
+{
+    if !attempt(machine)? {
+        return Ok(false);
+    }
+    for _ in 1..ATTEMPTS {
+        match attempt(machine) {
+            Ok(true) => {}
+            Ok(false) => return Ok(false),
+            Err(_) => return Ok(true),
+        }
+    }
+    Ok(true)
+}
+
 // Whether whoever has the turn attempts a lock now, which is done.
 fn attempt(machine: &mut Machine<MemorySink, u64>) -> Result<bool, LibraryFault>
     ensures rests { IfOk result (λ made. made ≡ false → Rests machine.new) }
+    ensures attempt { IfOk result (λ made. MayHaveAttempted made machine.old machine.new) }
     ensures refused { OnErr result (machine.new ≡ machine.old) }
 {
     let Some(i) = machine.turn_holder() else {
