@@ -3,6 +3,7 @@ of the program `detio`, what it makes of the logs is compared too."""
 
 import os
 import signal
+import socket
 import subprocess
 import sys
 import tempfile
@@ -373,13 +374,63 @@ write 1 x6262
 close 1
 ''',
 ]
+# What is asked of the host, and the reply of each line by the rules of docs/doors.md. There is a file of five bytes
+# and a folder.
+HOST = [
+    ('host_open none.txt r', 'fail ENOENT'),
+    ('host_open none/made.txt w create', 'fail ENOENT'),
+    ('host_open old.txt/under r', 'fail EIO'),
+    ('host_open folder rw', 'fail EIO'),
+    ('host_open folder r', 'number 0'),
+    ('read 0 4', 'fail EIO'),
+    ('close 0', 'done'),
+    ('host_open made.txt r create', 'number 0'),
+    ('read 0 4', 'data -'),
+    ('host_open made.txt w', 'number 1'),
+    ('write 1 x78', 'count 1'),
+    ('host_open made.txt w trunc', 'number 2'),
+    ('read 0 4', 'data -'),
+    ('close 2', 'done'),
+    ('close 1', 'done'),
+    ('host_open old.txt rw append', 'number 1'),
+    ('write 1 x6162', 'count 2'),
+    ('lseek 1 0 set', 'number 0'),
+    ('read 1 20', 'data 68656c6c6f6162'),
+    ('lseek 1 -1 set', 'fail EINVAL'),
+    ('lseek 1 -3 end', 'number 4'),
+    ('lseek 1 2 cur', 'number 6'),
+    ('lseek 1 -90 cur', 'fail EINVAL'),
+    ('read 1 20', 'data 62'),
+    ('host_open old.txt r', 'number 2'),
+    ('read 2 2', 'data 6865'),
+    ('host_open old.txt w trunc append', 'number 3'),
+    ('write 3 x7a', 'count 1'),
+    ('read 2 2', 'data -'),
+    ('host_open old.txt w create', 'number 4'),
+    ('write 4 x79', 'count 1'),
+    ('close 4', 'done'),
+    ('tcp_connect 1', 'fail ECONNREFUSED'),
+    ('tcp_listen PORT', 'number 4'),
+    ('tcp_listen PORT', 'fail EADDRINUSE'),
+    ('tcp_connect PORT', 'number 5'),
+    ('tcp_accept 4', 'number 6'),
+    ('write 5 x706f6e67', 'count 4'),
+    ('read 6 2', 'data 706f'),
+    ('shutdown 5 write', 'done'),
+    ('read 6 9', 'data 6e67'),
+    ('read 6 9', 'data -'),
+    ('write 5 x21', 'fail EPIPE'),
+    ('close 4', 'done'),
+    ('close 6', 'done'),
+    ('close 5', 'done'),
+]
 PROGRAM = os.environ.get('DETIO_PROGRAM')
 
 
 def player(script, rows):
     """A function that makes the calls of a script, and keeps the lines that the program prints for them."""
-    ways = {'host_open': 'number', 'open': 'number', 'lseek': 'number', 'write': 'count', 'read': 'data',
-            'pread': 'data', 'close': 'done'}
+    ways = {'write': 'count', 'read': 'data', 'pread': 'data', 'close': 'done', 'shutdown': 'done'}
+    flags = {'create': 'create', 'trunc': 'truncate', 'append': 'append'}
 
     def play(io):
         for line in script.splitlines():
@@ -388,17 +439,22 @@ def player(script, rows):
                 io.work(int(words[0]))
                 continue
             if name in ('open', 'host_open'):
-                words = [words[0], {'r': 'r', 'w': 'w', 'rw': 'r+'}[words[1]]]
-                made = lambda: getattr(io, name)(*words, create=True)
+                path, access = words[0], {'r': 'r', 'w': 'w', 'rw': 'r+'}[words[1]]
+                given = {flags[it]: True for it in words[2:]}
+                made = lambda: getattr(io, name)(path, access, **given)
             elif name == 'write':
                 made = lambda: io.write(int(words[0]), bytes.fromhex(words[1][1:]))
             elif name == 'lseek':
-                made = lambda: io.lseek(int(words[0]), int(words[1]), words[2])
+                whence = {'cur': 'current'}.get(words[2], words[2])
+                made = lambda: io.lseek(int(words[0]), int(words[1]), whence)
+            elif name == 'shutdown':
+                made = lambda: io.shutdown(int(words[0]), words[1])
             else:
                 made = lambda: getattr(io, name)(*map(int, words))
             try:
                 value = made()
-                told = ways[name] + ('' if value is None else f' {value.hex() if isinstance(value, bytes) else value}')
+                shown = value.hex() or '-' if isinstance(value, bytes) else value
+                told = ways.get(name, 'number') + ('' if value is None else f' {shown}')
             except OSError as error:
                 told = f'fail {error.strerror}'
             rows.append(f'{io.number} {len(rows)} {name} {told}'.rstrip())
@@ -470,6 +526,33 @@ class Program(unittest.TestCase):
         self.replayed('run.log')
         same = self.detio('compare', '--log', 'run.log', '--with', 'run.log', '0.script', '1.script')
         self.assertEqual((same.returncode, same.stderr), (0, ''), same.stdout)
+
+    def test_the_host_is_reached_as_the_program_reaches_it(self):
+        with socket.socket() as free:
+            free.bind(('127.0.0.1', 0))
+            port = str(free.getsockname()[1])
+        script = ''.join(f'{line}\n' for line, _ in HOST).replace('PORT', port)
+        replies = [f'0 {number} {line.split()[0]} {reply}' for number, (line, reply) in enumerate(HOST)]
+        logs = []
+        for name in 'program', 'library':
+            os.makedirs(f'{name}/folder')
+            os.chdir(name)
+            with open('old.txt', 'w') as file:
+                file.write('hello')
+            if name == 'program':
+                with open('host.script', 'w') as file:
+                    file.write(script)
+                printed = self.detio('record', '--log', 'run.log', 'host.script')
+                self.assertEqual(printed.stdout.splitlines(), [*replies, 'end'], printed.stderr)
+            else:
+                rows = []
+                detio.Run(player(script, rows)).record('run.log').check()
+                self.assertEqual(rows, replies)
+            with open('run.log', 'rb') as log, open('old.txt') as file:
+                logs.append(log.read())
+                self.assertEqual(file.read(), 'y')
+            os.chdir('..')
+        self.assertEqual(*logs)
 
 
 if __name__ == '__main__':
