@@ -409,7 +409,7 @@ HOST = [
     ('host_open old.txt w create', 'number 4'),
     ('write 4 x79', 'count 1'),
     ('close 4', 'done'),
-    ('tcp_connect 1', 'fail ECONNREFUSED'),
+    ('tcp_connect CLOSED', 'fail ECONNREFUSED'),
     ('tcp_listen PORT', 'number 4'),
     ('tcp_listen PORT', 'fail EADDRINUSE'),
     ('tcp_connect PORT', 'number 5'),
@@ -528,10 +528,14 @@ class Program(unittest.TestCase):
         self.assertEqual((same.returncode, same.stderr), (0, ''), same.stdout)
 
     def test_the_host_is_reached_as_the_program_reaches_it(self):
-        with socket.socket() as free:
-            free.bind(('127.0.0.1', 0))
-            port = str(free.getsockname()[1])
-        script = ''.join(f'{line}\n' for line, _ in HOST).replace('PORT', port)
+        # One port to listen at, and one at which nobody listens: both are held, so that no other program takes them.
+        ports = [socket.socket(), socket.socket()]
+        for it in ports:
+            self.addCleanup(it.close)
+            it.setsockopt(socket.SOL_SOCKET, socket.SO_REUSEADDR, 1)
+            it.bind(('127.0.0.1', 0))
+        port, closed = [str(it.getsockname()[1]) for it in ports]
+        script = ''.join(f'{line}\n' for line, _ in HOST).replace('PORT', port).replace('CLOSED', closed)
         replies = [f'0 {number} {line.split()[0]} {reply}' for number, (line, reply) in enumerate(HOST)]
         logs = []
         for name in 'program', 'library':
@@ -543,7 +547,7 @@ class Program(unittest.TestCase):
                 with open('host.script', 'w') as file:
                     file.write(script)
                 printed = self.detio('record', '--log', 'run.log', 'host.script')
-                self.assertEqual(printed.stdout.splitlines(), [*replies, 'end'], printed.stderr)
+                self.assertEqual((printed.returncode, printed.stdout.splitlines()), (0, [*replies, 'end']))
             else:
                 rows = []
                 detio.Run(player(script, rows)).record('run.log').check()
