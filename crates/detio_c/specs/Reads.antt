@@ -182,13 +182,13 @@ ReadsLogOf from n room buffer s =
     MatchOption s.machine (IsSomeAnd s.left (λ left. ReadsLog from n room buffer left.sink.bytes))
     (λ m. ReadsLog from n room buffer m.log.taken)
 
--- the machine is finished, C reads how it ended, and how many outcomes came is kept, with what a
--- replay's log has
+-- the machine is finished and gone, C reads how it ended, and how many outcomes came is kept, with
+-- what a replay's log has
 abbrev pub HasFinished : RunEnd → Session → Session → Type 0
 HasFinished words old new = IsSomeAnd old.machine (λ m. IsSomeAnd new.left
     (λ left. Finishes m left.sink.bytes left.sink.failures left.stop
     × (words ≡ run_end left.stop (have_ended m.whole.threads) left.sink.bytes)))
-    × (counts_of new ≡ counts_of old) × (new.logged ≡ old.logged)
+    × (new.machine ≡ None) × (counts_of new ≡ counts_of old) × (new.logged ≡ old.logged)
 
 -- this may be the thread that a stop names, if it names one
 abbrev pub MayName : ℕ → Stop → Type 0

@@ -4,8 +4,8 @@ ghost use Rattle.machine.specs.Runs.Coming.{Asks, Nothing};
 ghost use Rattle.posix_terms.specs.declared.step.Step.TheVariants as step;
 ghost use Rattle.c_words.specs.Calls.{call_of};
 ghost use Rattle.c_words.specs.Faults.{code_of};
-ghost use Rattle.detio_c.specs.Promise.{AsksCall, HasAsked, HasCome, HasGrown, HasSettled};
-ghost use Rattle.detio_c.specs.Promise.{IsFaithfulIn, IsRefusal, KeepsRest};
+ghost use Rattle.detio_c.specs.Promise.{AsksCall, HasAsked, HasCome, HasGone, HasGrown};
+ghost use Rattle.detio_c.specs.Promise.{HasSettled, IsFaithfulIn, IsRefusal, KeepsRest};
 ghost use Rattle.detio_c.specs.Reads.{HasTurn, InBoth, InMachine, IsAtPhase, MakesAgain, ReadsDoor};
 ghost use Rattle.detio_c.specs.Reads.{ReadsReply, ReadsRequest, Rests, door_along};
 
@@ -63,7 +63,7 @@ pub extern "C" fn detio_ask(
     ensures faithful { IsFaithfulIn h.new.value }
     ensures grown { result ≡ 0
         → HasAsked call.now text.now second.now thread h.old.value h.new.value }
-    ensures refused { IsRefusal result → h.new.value ≡ h.old.value }
+    ensures refused { IsRefusal 0 result → h.new.value ≡ h.old.value }
     ensures freed { h.old.value ≡ None → result ≡ 3 }
 {
     let Some(session) = taken(alloc, h) else {
@@ -81,7 +81,7 @@ pub extern "C" fn detio_work(alloc: Global, h: &mut Handle, thread: usize, units
     ensures faithful { IsFaithfulIn h.new.value }
     ensures grown { result ≡ 0
         → HasGrown (Asks (step.Work units)) (Advances thread) h.old.value h.new.value }
-    ensures refused { IsRefusal result → h.new.value ≡ h.old.value }
+    ensures refused { IsRefusal 0 result → h.new.value ≡ h.old.value }
     ensures freed { h.old.value ≡ None → result ≡ 3 }
 {
     let Some(session) = taken(alloc, h) else {
@@ -99,7 +99,7 @@ pub extern "C" fn detio_end(alloc: Global, h: &mut Handle, thread: usize) -> u32
     ensures faithful { IsFaithfulIn h.new.value }
     ensures grown { result ≡ 0
         → HasGrown (Asks step.End) (Advances thread) h.old.value h.new.value }
-    ensures refused { IsRefusal result → h.new.value ≡ h.old.value }
+    ensures refused { IsRefusal 0 result → h.new.value ≡ h.old.value }
     ensures freed { h.old.value ≡ None → result ≡ 3 }
 {
     let Some(session) = taken(alloc, h) else {
@@ -117,7 +117,7 @@ pub extern "C" fn detio_again(alloc: Global, h: &mut Handle, thread: usize) -> u
     ensures faithful { IsFaithfulIn h.new.value }
     ensures grown { result ≡ 0
         → HasGrown Nothing (Advances thread) h.old.value h.new.value }
-    ensures refused { IsRefusal result → h.new.value ≡ h.old.value }
+    ensures refused { IsRefusal 0 result → h.new.value ≡ h.old.value }
     ensures freed { h.old.value ≡ None → result ≡ 3 }
 {
     let Some(session) = taken(alloc, h) else {
@@ -137,7 +137,7 @@ pub extern "C" fn detio_settle(alloc: Global, h: &mut Handle) -> u32
     ensures rests { result ≡ 0 → InMachine h.new.value Rests }
     ensures attempts { (result ≡ 0) ⊎ (result ≡ 1)
         → InBoth h.old.value h.new.value (HasSettled result) }
-    ensures refused { IsRefusal result → h.new.value ≡ h.old.value }
+    ensures refused { IsRefusal 1 result → h.new.value ≡ h.old.value }
     ensures freed { h.old.value ≡ None → result ≡ 3 }
 {
     let Some(session) = taken(alloc, h) else {
@@ -219,7 +219,7 @@ pub extern "C" fn detio_answer(
     ensures reply { result ≡ 0
         → InMachine h.old.value (ReadsReply thread reply.new (length buffer.old) buffer.new) }
     ensures again { result ≡ 2 → InMachine h.old.value (MakesAgain thread) }
-    ensures refused { IsRefusal result → h.new.value ≡ h.old.value }
+    ensures refused { IsRefusal 2 result → h.new.value ≡ h.old.value }
     ensures freed { h.old.value ≡ None → result ≡ 3 }
 {
     let Some(session) = taken(alloc, h) else {
@@ -278,11 +278,10 @@ pub extern "C" fn detio_begin_outside(
     door: &mut u64,
 ) -> u32
     ensures faithful { IsFaithfulIn h.new.value }
-    ensures grown { result ≡ 0
-        → HasGrown Nothing (Advances thread) h.old.value h.new.value }
+    ensures grown { result ≡ 0 → HasGone thread h.old.value h.new.value }
     ensures door { result ≡ 0
         → InMachine h.old.value (λ m. ReadsDoor goes.new door.new (door_along thread m)) }
-    ensures refused { IsRefusal result → h.new.value ≡ h.old.value }
+    ensures refused { IsRefusal 0 result → h.new.value ≡ h.old.value }
     ensures freed { h.old.value ≡ None → result ≡ 3 }
 {
     let Some(session) = taken(alloc, h) else {
@@ -316,7 +315,7 @@ pub extern "C" fn detio_record(
 ) -> u32
     ensures faithful { IsFaithfulIn h.new.value }
     ensures grown { result ≡ 0 → HasCome outcome.now bytes.now thread h.old.value h.new.value }
-    ensures refused { IsRefusal result → h.new.value ≡ h.old.value }
+    ensures refused { IsRefusal 9 result → h.new.value ≡ h.old.value }
     ensures freed { h.old.value ≡ None → result ≡ 3 }
 {
     let Some(session) = taken(alloc, h) else {

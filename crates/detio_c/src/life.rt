@@ -118,7 +118,7 @@ pub extern "C" fn detio_unused(alloc: Global, h: &mut Handle, thread: usize, cou
 pub extern "C" fn detio_stop(alloc: Global, h: &mut Handle, cause: u32, thread: usize) -> u32
     ensures faithful { IsFaithfulIn h.new.value }
     ensures done { result ≡ 0 → InBoth h.old.value h.new.value (HasStopped cause thread) }
-    ensures refused { IsRefusal result → h.new.value ≡ h.old.value }
+    ensures refused { IsRefusal 0 result → h.new.value ≡ h.old.value }
     ensures freed { h.old.value ≡ None → result ≡ 3 }
 {
     let Some(session) = taken(alloc, h) else {
@@ -138,7 +138,7 @@ pub extern "C" fn detio_stop(alloc: Global, h: &mut Handle, cause: u32, thread: 
 pub extern "C" fn detio_finish(alloc: Global, h: &mut Handle, ended: &mut RunEnd) -> u32
     ensures faithful { IsFaithfulIn h.new.value }
     ensures done { result ≡ 0 → InBoth h.old.value h.new.value (HasFinished ended.new) }
-    ensures refused { IsRefusal result → h.new.value ≡ h.old.value }
+    ensures refused { IsRefusal 0 result → h.new.value ≡ h.old.value }
     ensures freed { h.old.value ≡ None → result ≡ 3 }
 {
     let Some(session) = taken(alloc, h) else {

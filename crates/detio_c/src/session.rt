@@ -9,8 +9,8 @@ ghost use Rattle.machine.specs.Requests.{out_of};
 ghost use Rattle.machine.specs.Runs.Coming.{Asks, Nothing};
 ghost use Rattle.posix_terms.specs.declared.step.Step.TheVariants as step;
 ghost use Rattle.detio_c.specs.Begun.{Begins, BeginsReplay, outcomes_by, settings_said};
-ghost use Rattle.detio_c.specs.Promise.{BringsOutcome, GrowsBy, HasSettled, KeepsRest, LeadsBy};
-ghost use Rattle.detio_c.specs.Promise.{MayHaveAttempted, least_of};
+ghost use Rattle.detio_c.specs.Promise.{BringsOutcome, GoesOut, GrowsBy, HasSettled, KeepsRest};
+ghost use Rattle.detio_c.specs.Promise.{LeadsBy, MayHaveAttempted, least_of};
 ghost use Rattle.detio_c.specs.Reads.{HasFinished, HasStopped, HasTurn, IsAtPhase, ReadsAnswer};
 ghost use Rattle.detio_c.specs.Reads.{ReadsLogOf, ReadsNext, ReadsRequest, Rests, came_for};
 ghost use Rattle.detio_c.specs.Reads.{counts_in, counts_of, door_along, next_logged, phase_code};
@@ -258,8 +258,7 @@ impl Session {
     /// Thread i goes outside, with the door that is given, if one goes along.
     pub fn begin_outside(&mut self, i: usize) -> Result<Option<u64>, LibraryFault>
         ensures rest { KeepsRest self.old self.new }
-        ensures grown { OnOk result
-            (GrowsBy Nothing (Advances i) self.old.machine self.new.machine) }
+        ensures grown { OnOk result (GoesOut i self.old.machine self.new.machine) }
         ensures door { IfOk result (λ door. IsSomeAnd self.old.machine
             (λ m. door ≡ door_along i m)) }
         ensures refused { OnErr result (self.new ≡ self.old) }
@@ -282,7 +281,7 @@ impl Session {
         bytes: &[u8],
     ) -> Result<(), LibraryFault>
         ensures rest { KeepsRest self.old self.new }
-        ensures grown { OnOk result (BringsOutcome (outcome_of words.now bytes.now) i
+        ensures grown { OnOk result (BringsOutcome (outcome_of words.now bytes.now) words.now i
             self.old.machine self.new.machine) }
         ensures refused { IfErr result (λ f. (f ≡ fault.LogFull → ⊥) → self.new ≡ self.old) }
     {
@@ -306,7 +305,7 @@ impl Session {
         Ok(())
     }
 
-    /// Of a replay, what its log has next for thread i, which is about to go outside or is there. It changes nothing.
+    /// Of a replay, what its log has next for thread i, which is about to go outside or is there.
     pub fn next(&self, i: usize, buffer: &mut [u8]) -> Result<OutcomeWords, LibraryFault>
         ensures { IfOk result (λ words. ReadsNext i words buffer.new self.now) }
     {
