@@ -3,7 +3,7 @@ crates/c_words: what tools/header compares."""
 import re
 
 # What each type of an argument is in C; a slice is two arguments there, and the allocator none.
-TYPES = {
+TYPES: dict[str, list[str]] = {
     "&mut Handle": ["detio *"],
     "alloc: Global": [],
     "&[u8]": ["const uint8_t *", "size_t"],
@@ -80,6 +80,11 @@ def without_comments(text: str) -> str:
     return re.sub(r"/\*.*?\*/|//[^\n]*", "", text, flags=re.S)
 
 
+def parts(text: str, mark: str) -> list[str]:
+    """What stands between these marks, without what is blank."""
+    return [it.strip() for it in text.split(mark) if it.strip()]
+
+
 def in_c(of: str) -> list[str]:
     """What a Rattle type is in C."""
     if of in TYPES:
@@ -97,8 +102,8 @@ def exports(text: str) -> Functions:
     found: Functions = {}
     head = r'#\[unsafe\(no_mangle\)\]\s*pub extern "C" fn (\w+)\((.*?)\)\s*(?:->\s*(\w+))?\s*(?=ensures|requires|\{)'
     for name, arguments, result in re.findall(head, text, flags=re.S):
-        types = []
-        for it in filter(None, (it.strip() for it in arguments.split(","))):
+        types = list[str]()
+        for it in parts(arguments, ","):
             types += TYPES[it] if it in TYPES else in_c(it.split(":", 1)[1].strip())
         found[name] = in_c(result)[0], types
     return found
@@ -127,7 +132,7 @@ def c_structs(text: str) -> Fields:
     found: Fields = {}
     for body, name in re.findall(r"typedef struct \{(.*?)\} (\w+);", text, flags=re.S):
         found[name] = []
-        for line in filter(None, (it.strip() for it in body.split(";"))):
+        for line in parts(body, ";"):
             field = FIELD.fullmatch(line)
             if not field:
                 found[name].append((line, "?"))
@@ -151,7 +156,7 @@ def enums(text: str) -> dict[str, Numbers]:
     found: dict[str, Numbers] = {}
     for name, body in re.findall(r"enum (\w+) \{(.*?)\};", text, flags=re.S):
         found[name], number = [], -1
-        for it in filter(None, (it.strip() for it in body.split(","))):
+        for it in parts(body, ","):
             word, _, value = it.partition("=")
             number = int(value) if value.strip() else number + 1
             found[name].append((word.strip(), number))
@@ -298,5 +303,5 @@ class Comparison:
         for name, result, listed in found:
             types = shared[1] if listed == "call" and shared else listed
             known = there.get(name)
-            wanted = known and (IN_PYTHON.get(known[0]), [IN_PYTHON.get(it) for it in known[1]])
+            wanted = known and (IN_PYTHON.get(known[0], "?"), [IN_PYTHON.get(it, "?") for it in known[1]])
             self.same(f"{path}: {name}", (result, re.findall(r"[\w.]+(?:\(\w+\))?", types)), wanted)

@@ -15,7 +15,7 @@ FILES = {
     "beside/src/lib.rt": "pub fn three() -> u8 {\n    3\n}\n",
     "high/must-fail/seven.edit": "file: src/lib.rt\nold: + 1\nnew: + 6\n",
 }
-USES = {"low": [], "beside": [], "high": ["low"]}
+USES: dict[str, list[str]] = {"low": [], "beside": [], "high": ["low"]}
 LINE = "two: `returns`"
 IMPORTS = re.compile(r"^from detio_tools(?:\.(\w+))? import (.*)", re.M)
 
@@ -63,7 +63,8 @@ class Keeping(unittest.TestCase):
 
     def test_kept_by_what_it_uses_and_is(self) -> None:
         place = self.place()
-        for uses, static in (({**USES, "high": []}, frozenset[str]()), (USES, frozenset(["high"]))):
+        apart: dict[str, list[str]] = {**USES, "high": []}
+        for uses, static in ((apart, frozenset[str]()), (USES, frozenset(["high"]))):
             other = Kept(self.top, prover.Proved("", uses, static), self.kept.room)
             self.assertNotEqual(other.places(["high"])["high"], place)
 
