@@ -12,3 +12,4 @@ pub mod Standing
 pub mod Stepping
 pub mod Streaming
 pub mod Turning
+pub mod Errands

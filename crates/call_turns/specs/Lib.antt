@@ -5,3 +5,4 @@ pub mod Acting
 pub mod Patience
 pub mod Errands
 pub mod Space
+pub mod Doors

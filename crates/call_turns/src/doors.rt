@@ -1,6 +1,8 @@
-ghost use Rattle.std.specs.Prelude.{◌≡◌, ◌+◌, ◌^◌, ◌<◌, ◌≤◌, IsTrue};
+ghost use Rattle.std.specs.Prelude.{◌≡◌, ◌+◌, ◌^◌, ◌<◌, ◌≤◌, IsTrue, false};
 ghost use Rattle.sequential_object.specs.Locked.{keeps_table};
 ghost use Rattle.descriptor_table.specs.Changes.{IsPortOf};
+ghost use Rattle.descriptor_table.specs.Doors.{AddsOne};
+ghost use Rattle.call_turns.specs.Doors.{is_ok};
 ghost use Rattle.call_turns.specs.Patience.{turn_bytes};
 ghost use Rattle.call_turns.specs.Store.{IsDecided, Opens, at_port};
 
@@ -30,6 +32,9 @@ impl Store {
         requires decided { IsDecided self.old call.now carried.moved locking }
         ensures opens { Opens patience carried self.old call.now outcome.now result self.new }
         ensures few { turn_bytes result ≡ 0 }
+        ensures doors { AddsOne self.old.table.descriptions locking.object
+            self.new.table.descriptions }
+        ensures fails { is_ok outcome.now ≡ false → self.new ≡ self.old }
         ensures births { (self.new.table.descriptions.made ≤ self.old.table.descriptions.made + 2)
             × (self.new.table.made_objects ≤ self.old.table.made_objects + 1) }
     {

@@ -3,6 +3,7 @@ ghost use Rattle.std.specs.Prelude.{false, not, true};
 ghost use Rattle.sequential_object.specs.Bytes.{read_count, reply_bytes};
 ghost use Rattle.descriptor_table.specs.Plans.{bytes_asked};
 ghost use Rattle.posix_terms.specs.Outcomes.{fits};
+ghost use Rattle.call_turns.specs.Doors.{MovesDoors};
 ghost use Rattle.call_turns.specs.Patience.{EndsOutside, turn_bytes};
 ghost use Rattle.call_turns.specs.Space.{HasSpaceFor, LeavesSpace, changed, no_space};
 ghost use Rattle.sequential_object.specs.Locked.{keeps_table};
@@ -106,6 +107,8 @@ impl Room {
         requires room { HasSpaceFor call.now self.old }
         ensures performs { Performs patience carried store.old call.now result store.new }
         ensures kept { KeepsStore (keeps_table call.now) result store.old store.new }
+        ensures doors { MovesDoors locking.object (keeps_table call.now) result store.old
+            store.new }
         ensures room { LeavesSpace result self.new }
         ensures births { (store.new.table.descriptions.made ≤ store.old.table.descriptions.made + 2)
             × (store.new.table.made_objects ≤ store.old.table.made_objects + 1) }

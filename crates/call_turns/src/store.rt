@@ -11,10 +11,12 @@ ghost use Rattle.sequential_object.specs.Meant.{key_of};
 ghost use Rattle.sequential_object.specs.So.{Can, CanDo};
 ghost use Rattle.sequential_object.specs.declared.decision.Deed.TheVariants as deed;
 ghost use Rattle.sequential_object.specs.declared.decision.Act.TheVariants as act;
+ghost use Rattle.descriptor_table.specs.Doors.{GoneWithLast, HaveOne};
 ghost use Rattle.descriptor_table.specs.Laws.{TableFollows};
 ghost use Rattle.descriptor_table.specs.View.{view};
 ghost use Rattle.call_turns.specs.Acting.{IsInside, IsReady, Leaves, StandsChanged, acts_at};
 ghost use Rattle.call_turns.specs.Acting.{cleared, emptied};
+ghost use Rattle.call_turns.specs.Doors.{KeepsDoors, MovesDoors};
 ghost use Rattle.call_turns.specs.Patience.{act_bytes};
 ghost use Rattle.call_turns.specs.Store.{ComesTo, EndsTurn, IsDecided, KeepsStore, Performs};
 ghost use Rattle.call_turns.specs.Store.{UsesRoom, first_stored};
@@ -40,6 +42,8 @@ pub struct Store {
 
     // each object number has its body
     ghost count: { length bodies.items ≡ limit.OBJECTS },
+    // at most one description of an object leads outside
+    ghost single: { HaveOne table.descriptions },
 }
 
 impl Model for Store {
@@ -76,6 +80,7 @@ impl Store {
         requires descriptions { self.old.table.descriptions.made < 2 ^ 127 }
         requires objects { self.old.table.made_objects < 2 ^ 127 }
         ensures comes { ComesTo carried self.old call.now result self.new }
+        ensures doors { KeepsDoors self.old self.new }
         ensures births { (self.new.table.descriptions.made ≤ self.old.table.descriptions.made + 2)
             × (self.new.table.made_objects ≤ self.old.table.made_objects + 1) }
     {
@@ -119,6 +124,7 @@ impl Store {
         requires room { read_count call.now ≤ length room.old.items }
         ensures performs { Performs patience carried self.old call.now result self.new }
         ensures kept { KeepsStore (keeps_table call.now) result self.old self.new }
+        ensures doors { MovesDoors locking.object (keeps_table call.now) result self.old self.new }
         ensures room { UsesRoom (read_count call.now) room.old.items room.new.items result }
         ensures births { (self.new.table.descriptions.made ≤ self.old.table.descriptions.made + 2)
             × (self.new.table.made_objects ≤ self.old.table.made_objects + 1) }
@@ -153,6 +159,8 @@ impl Store {
         requires objects { self.old.table.made_objects < 2 ^ 127 }
         requires can { Can (view self.old.table) call.now change }
         ensures stands { StandsChanged self.old call.now change self.new }
+        ensures doors { KeepsDoors self.old self.new }
+        ensures last { GoneWithLast self.old.table.descriptions change self.new.table.descriptions }
         ensures births { (self.new.table.descriptions.made ≤ self.old.table.descriptions.made + 2)
             × (self.new.table.made_objects ≤ self.old.table.made_objects + 1) }
     {
@@ -193,6 +201,7 @@ impl Store {
         requires can { CanDo (view self.old.table) call.now object (deed.Acts act change) }
         requires room { read_count call.now ≤ length room.old.items }
         ensures ends { EndsTurn carried self.old call.now result self.new }
+        ensures doors { KeepsDoors self.old self.new }
         ensures few { act_bytes result ≤ read_count call.now }
         ensures births { (self.new.table.descriptions.made ≤ self.old.table.descriptions.made + 2)
             × (self.new.table.made_objects ≤ self.old.table.made_objects + 1) }

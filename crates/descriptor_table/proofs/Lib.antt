@@ -4,6 +4,7 @@ pub mod CanLemmas
 pub mod ChangeLemmas
 pub mod Closing
 pub mod DecideLemmas
+pub mod DoorLemmas
 pub mod EndLemmas
 pub mod EntryLemmas
 pub mod Following

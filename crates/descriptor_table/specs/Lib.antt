@@ -7,3 +7,4 @@ pub mod Plans
 pub mod Agreement
 pub mod Applied
 pub mod Laws
+pub mod Doors

@@ -11,6 +11,7 @@ ghost use Rattle.sequential_object.specs.declared.decision.Decision.TheVariants 
 ghost use Rattle.descriptor_table.specs.Agreement.{NumbersStay};
 ghost use Rattle.descriptor_table.specs.Applied.{AreNumbers, IsAtPort, door_given, given, left_of};
 ghost use Rattle.descriptor_table.specs.Applied.{numbers_of, value_of, with_door};
+ghost use Rattle.descriptor_table.specs.Doors.{AddsNone, AddsOne, GoneWithLast};
 ghost use Rattle.descriptor_table.specs.Laws.{TableFollows};
 ghost use Rattle.descriptor_table.specs.Changes.{AreOpened, CanChange, CanMakeEnds, Changed};
 ghost use Rattle.descriptor_table.specs.Changes.{IsDoorOpened, IsFreeNumber, IsNextObject};
@@ -60,7 +61,8 @@ impl Table {
 
     /// Makes a change for which all was looked up in this table (`can`), and looks nothing up again.
     /// What the table shows goes along (`shows`). An object keeps its number while it is there, and
-    /// a new one gets the next that is free (`numbers`).
+    /// a new one gets the next that is free (`numbers`). No description that leads outside is new
+    /// (`doors`), and one that a single descriptor held is gone with that (`ends`).
     pub fn carry_out(&mut self, call: &Call, change: Change)
         requires descriptions { self.old.descriptions.made < 2 ^ 127 }
         requires objects { self.old.made_objects < 2 ^ 127 }
@@ -68,6 +70,8 @@ impl Table {
         ensures shows { (s : State) → Shows self.old s
             → Shows self.new (changed s call.now (change_by (names_of self.old) change)) }
         ensures numbers { NumbersStay self.old self.new }
+        ensures doors { AddsNone self.old.descriptions self.new.descriptions }
+        ensures ends { GoneWithLast self.old.descriptions change self.new.descriptions }
     {
         self.known();
         changes_keep_sound();
@@ -85,6 +89,7 @@ impl Table {
         ensures shows { (s : State) → Shows self.old s
             → Shows self.new (door_opened s call.now (new_by (names_of self.old) new) value) }
         ensures numbers { NumbersStay self.old self.new }
+        ensures doors { AddsOne self.old.descriptions new.object self.new.descriptions }
     {
         self.known();
         changes_keep_sound();

@@ -24,3 +24,4 @@ pub mod SkipShows
 pub mod Openings
 pub mod DueTurn
 pub mod Passing
+pub mod DoorSteps

@@ -18,3 +18,4 @@ pub mod Phases
 pub mod Starting
 pub mod Refusals
 pub mod Requests
+pub mod DoorMoves

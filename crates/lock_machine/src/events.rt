@@ -8,7 +8,9 @@ ghost use Rattle.lock_machine.specs.Births.{BearsInTime, BornWithin, time_of};
 ghost use Rattle.lock_machine.specs.Events.{Answers, Grants, granted_row, wants_to_keep};
 ghost use Rattle.lock_machine.specs.Events.{GrantsObject, PlansTo, Reaches, Tries, object_taken};
 ghost use Rattle.lock_machine.specs.Events.{parts};
+ghost use Rattle.lock_machine.specs.DoorMoves.{PlansDoors, StartsDoors};
 ghost use Rattle.lock_machine.specs.Lives.{is_live};
+ghost use Rattle.lock_machine.specs.Refusals.{wants_object, wants_table};
 ghost use Rattle.lock_machine.specs.Wanted.{BringsNoCall, KeepsCalls, KeepsWanted, HasDecided};
 ghost use Rattle.lock_machine.specs.Wanted.{HasDecidedAt};
 ghost use Rattle.lock_machine.specs.Held.{phase_behind, phase_started, told_as};
@@ -138,6 +140,8 @@ pub fn try_table(
     ensures others { KeepsOthers i thread.old clocks.old thread.new clocks.new }
     ensures births { BearsInTime (clock_at clocks.old i) shared.old.store (clock_at clocks.new i)
         shared.new.store }
+    ensures doors { wants_table thread.old.phase ≡ true → PlansDoors thread.new.phase
+        shared.old.store shared.new.store }
     ensures room { KeepsRoom (rows_due thread.old.phase) shared.old.rows (rows_due thread.new.phase)
         shared.new.rows }
     ensures decided { HasDecidedAt i thread.new.phase shared.new.lock shared.new.rows.items
@@ -187,6 +191,7 @@ fn plan(
         shared.new.rows.items) }
     ensures live { is_live thread.old.phase ≡ true → is_live thread.new.phase ≡ true }
     ensures births { BearsInTime 0 shared.old.store 1 shared.new.store }
+    ensures doors { PlansDoors thread.new.phase shared.old.store shared.new.store }
     ensures room { KeepsRoom 1 shared.old.rows (rows_due thread.new.phase) shared.new.rows }
     ensures decided { HasDecided thread.new.phase shared.new.rows.items shared.new.store
         shared.new.wanted }
@@ -237,6 +242,8 @@ pub fn try_object(
     ensures others { KeepsOthers i thread.old clocks.old thread.new clocks.new }
     ensures births { BearsInTime (clock_at clocks.old i) shared.old.store (clock_at clocks.new i)
         shared.new.store }
+    ensures doors { wants_object thread.old.phase ≡ true → StartsDoors thread.new.phase
+        shared.old.store shared.new.store }
     ensures room { KeepsRoom (rows_due thread.old.phase) shared.old.rows (rows_due thread.new.phase)
         shared.new.rows }
     ensures decided { HasDecidedAt i thread.new.phase shared.new.lock shared.new.rows.items
@@ -287,6 +294,8 @@ fn grant_object(patience: u32, i: usize, thread: &mut Thread, shared: &mut Share
         (parts (timed thread.new clock) shared.new.lock shared.new.store shared.new.rows.items) }
     ensures live { is_live thread.old.phase ≡ true → is_live thread.new.phase ≡ true }
     ensures births { BearsInTime 0 shared.old.store 1 shared.new.store }
+    ensures doors { wants_object thread.old.phase ≡ true → StartsDoors thread.new.phase
+        shared.old.store shared.new.store }
     ensures room { KeepsRoom 1 shared.old.rows (rows_due thread.new.phase) shared.new.rows }
     ensures decided { HasDecided thread.new.phase shared.new.rows.items shared.new.store
         shared.new.wanted }
@@ -346,6 +355,7 @@ fn grant(
         (parts (timed thread.new clock) shared.new.lock shared.new.store shared.new.rows.items) }
     ensures live { is_live thread.old.phase ≡ true → is_live thread.new.phase ≡ true }
     ensures births { BearsInTime 0 shared.old.store 1 shared.new.store }
+    ensures doors { StartsDoors thread.new.phase shared.old.store shared.new.store }
     ensures room { KeepsRoom 1 shared.old.rows (rows_due thread.new.phase) shared.new.rows }
     ensures decided { HasDecided thread.new.phase shared.new.rows.items shared.new.store
         shared.new.wanted }

@@ -4,6 +4,7 @@ ghost use Rattle.lock_machine.specs.Shows.{AdvancesQuietly, AsksFor, Attempts, I
 ghost use Rattle.lock_machine.specs.Shows.{IsGrantedAt, MayAdvance, MayAsk, RecordsGiven, Tells};
 ghost use Rattle.lock_machine.specs.Shows.{WantsAt, has_moved};
 ghost use Rattle.lock_machine.specs.Refusals.{Rests, outlook, wants_table};
+ghost use Rattle.lock_machine.specs.DoorMoves.{AnswersDoors, PlansDoors, StartsDoors};
 ghost use Rattle.lock_machine.specs.Views.{clocks_of};
 ghost use Rattle.lock_machine.specs.Whole.{settings_in, thread_at};
 ghost use Rattle.lock_machine.specs.declared.thread.Phase.TheVariants as phase;
@@ -34,6 +35,7 @@ impl LockMachine {
         ensures memory { OnErr result (MayAsk i step self.old) }
         ensures count { length self.new.threads ≡ length self.old.threads }
         ensures settings { settings_in self.new ≡ settings_in self.old }
+        ensures table { self.new.table ≡ self.old.table }
     {
         arising_states();
         reserve_rows(&step, self.threads.len(), &mut self.shared.rows)?;
@@ -48,6 +50,7 @@ impl LockMachine {
         ensures rests { Rests result self.old self.new }
         ensures count { length self.new.threads ≡ length self.old.threads }
         ensures settings { settings_in self.new ≡ settings_in self.old }
+        ensures table { self.new.table ≡ self.old.table }
     {
         arising_states();
         self.threads[i].end(&mut self.clocks, i)
@@ -61,6 +64,7 @@ impl LockMachine {
         ensures rests { Rests result self.old self.new }
         ensures count { length self.new.threads ≡ length self.old.threads }
         ensures settings { settings_in self.new ≡ settings_in self.old }
+        ensures table { self.new.table ≡ self.old.table }
     {
         begin_outside(
             i,
@@ -81,6 +85,7 @@ impl LockMachine {
         ensures memory { OnErr result (MayAdvance i self.old) }
         ensures count { length self.new.threads ≡ length self.old.threads }
         ensures settings { settings_in self.new ≡ settings_in self.old }
+        ensures table { self.new.table ≡ self.old.table }
     {
         arising_states();
         self.shared.rows.reserve(self.threads.len())?;
@@ -96,6 +101,7 @@ impl LockMachine {
         ensures outlook { result ≡ outlook self.old i given }
         ensures count { length self.new.threads ≡ length self.old.threads }
         ensures settings { settings_in self.new ≡ settings_in self.old }
+        ensures table { self.new.table ≡ self.old.table }
     {
         arising_states();
         requests_asked();
@@ -110,6 +116,7 @@ impl LockMachine {
         ensures rests { Rests (is_some result) self.old self.new }
         ensures count { length self.new.threads ≡ length self.old.threads }
         ensures settings { settings_in self.new ≡ settings_in self.old }
+        ensures doors { AnswersDoors result outing self.old.rows self.old.table self.new.table }
     {
         arising_states();
         let Some(object) = outing.object else {
@@ -143,6 +150,7 @@ impl LockMachine {
         ensures rests { Rests (is_some result) self.old self.new }
         ensures count { length self.new.threads ≡ length self.old.threads }
         ensures settings { settings_in self.new ≡ settings_in self.old }
+        ensures table { self.new.table ≡ self.old.table }
     {
         arising_states();
         match object {
@@ -179,6 +187,7 @@ impl LockMachine {
         ensures rests { Rests result self.old self.new }
         ensures count { length self.new.threads ≡ length self.old.threads }
         ensures settings { settings_in self.new ≡ settings_in self.old }
+        ensures doors { PlansDoors (thread_at self.new i).phase self.old.table self.new.table }
     {
         calls_outside();
         locks_and_doors();
@@ -200,6 +209,7 @@ impl LockMachine {
         ensures rests { Rests result self.old self.new }
         ensures count { length self.new.threads ≡ length self.old.threads }
         ensures settings { settings_in self.new ≡ settings_in self.old }
+        ensures doors { StartsDoors (thread_at self.new i).phase self.old.table self.new.table }
     {
         arising_states();
         calls_outside();

@@ -5,6 +5,7 @@ ghost use Rattle.posix_terms.specs.declared.transcript.HistoryRow.{HistoryRow as
 ghost use Rattle.logical_clocks.specs.ThreadClocks.{clock_at};
 ghost use Rattle.posix_terms.specs.declared.limits.TheConstants.Limits as limit;
 ghost use Rattle.lock_machine.specs.Births.{BearsInTime, BornWithin, time_of};
+ghost use Rattle.lock_machine.specs.DoorMoves.{AnswersDoors, EndsDoors};
 ghost use Rattle.lock_machine.specs.Lives.{is_live};
 ghost use Rattle.lock_machine.specs.Wanted.{IsWanted, BringsNoCall, KeepsCalls, LeavesWanted};
 ghost use Rattle.lock_machine.specs.Wanted.{HasDecidedAt};
@@ -141,6 +142,8 @@ pub fn answer_outside(
     ensures others { KeepsOthers i thread.old clocks.old thread.new clocks.new }
     ensures births { BearsInTime (clock_at clocks.old i) shared.old.store (clock_at clocks.new i)
         shared.new.store }
+    ensures doors { AnswersDoors result outing shared.old.rows.items shared.old.store
+        shared.new.store }
     ensures room { KeepsRoom (rows_due thread.old.phase) shared.old.rows (rows_due thread.new.phase)
         shared.new.rows }
     ensures brings { BringsNoCall thread.old.phase shared.old.rows.items thread.new.phase
@@ -222,6 +225,8 @@ fn end_turn(
         store.old store.new }
     ensures copy { turn_bytes result ≤ room.new.row }
     ensures births { BearsInTime 0 store.old 1 store.new }
+    ensures doors { EndsDoors outing.keeps_table call.now outing.carried outcome.now store.old
+        store.new }
     ensures kept { outing.keeps_table ≡ false → store.new ≡ store.old }
 {
     if !outing.keeps_table {

@@ -1,6 +1,7 @@
 ghost use Rattle.std.specs.Prelude.{◌≡◌, ◌<◌, ◌&&◌, not, true, false, Ok, Err, IfErr, IfOk, OnErr};
 ghost use Rattle.std.specs.Prelude.{is_ok, is_some, length, unwrap_or};
 ghost use Rattle.logical_clocks.specs.TurnOrder.{has_turn};
+ghost use Rattle.lock_machine.specs.DoorMoves.{AnswersAt, PlansDoors, StartsDoors};
 ghost use Rattle.lock_machine.specs.Refusals.{Comes, OnMemory, Rests, Tried, WantsNone, attempted};
 ghost use Rattle.lock_machine.specs.Refusals.{goes_outside, has_answer, is_blocked, is_end};
 ghost use Rattle.lock_machine.specs.Refusals.{is_outside, outlook, phase_at, recorded_as};
@@ -37,6 +38,7 @@ impl LockMachine {
         ensures err { OnErr result (self.new ≡ self.old) }
         ensures count { length self.new.threads ≡ length self.old.threads }
         ensures settings { settings_in self.new ≡ settings_in self.old }
+        ensures table { self.new.table ≡ self.old.table }
     {
         if !self.phase(i).is_working() || matches!(step, Step::End) {
             return Err(LockRefused::WrongPhase);
@@ -53,6 +55,7 @@ impl LockMachine {
         ensures err { OnErr result (self.new ≡ self.old) }
         ensures count { length self.new.threads ≡ length self.old.threads }
         ensures settings { settings_in self.new ≡ settings_in self.old }
+        ensures table { self.new.table ≡ self.old.table }
     {
         if !self.phase(i).is_working() {
             return Err(LockRefused::WrongPhase);
@@ -70,6 +73,8 @@ impl LockMachine {
         ensures memory { WantsNone result }
         ensures count { length self.new.threads ≡ length self.old.threads }
         ensures settings { settings_in self.new ≡ settings_in self.old }
+        ensures doors { IfOk result (λ a. PlansDoors (phase_at self.new i) self.old.table
+            self.new.table) }
     {
         if !self.phase(i).wants_table() || !self.has_turn(i) {
             return Err(LockRefused::WrongPhase);
@@ -89,6 +94,8 @@ impl LockMachine {
         ensures memory { WantsNone result }
         ensures count { length self.new.threads ≡ length self.old.threads }
         ensures settings { settings_in self.new ≡ settings_in self.old }
+        ensures doors { IfOk result (λ a. StartsDoors (phase_at self.new i) self.old.table
+            self.new.table) }
     {
         let Phase::WantsObject { object, .. } = *self.phase(i) else {
             return Err(LockRefused::WrongPhase);
@@ -129,6 +136,7 @@ impl LockMachine {
         ensures err { OnErr result (self.new ≡ self.old) }
         ensures count { length self.new.threads ≡ length self.old.threads }
         ensures settings { settings_in self.new ≡ settings_in self.old }
+        ensures table { self.new.table ≡ self.old.table }
     {
         let Phase::ToOutside(outing) = *self.phase(i) else {
             return Err(LockRefused::WrongPhase);
@@ -163,6 +171,7 @@ impl LockMachine {
         ensures rests { IfOk result (λ made. Rests (has_moved made) self.old self.new) }
         ensures count { length self.new.threads ≡ length self.old.threads }
         ensures settings { settings_in self.new ≡ settings_in self.old }
+        ensures table { self.new.table ≡ self.old.table }
     {
         let Phase::Outside(outing) = *self.phase(i) else {
             return Err(LockRefused::WrongPhase);
@@ -183,6 +192,7 @@ impl LockMachine {
         ensures err { OnErr result (self.new ≡ self.old) }
         ensures count { length self.new.threads ≡ length self.old.threads }
         ensures settings { settings_in self.new ≡ settings_in self.old }
+        ensures doors { AnswersAt (phase_at self.old i) result self.old self.new }
     {
         match *self.phase(i) {
             Phase::Granted { row, object, .. } => self
@@ -204,6 +214,7 @@ impl LockMachine {
         ensures err { OnErr result (self.new ≡ self.old) }
         ensures count { length self.new.threads ≡ length self.old.threads }
         ensures settings { settings_in self.new ≡ settings_in self.old }
+        ensures table { self.new.table ≡ self.old.table }
     {
         if !self.phase(i).is_blocked() {
             return Err(LockRefused::WrongPhase);
@@ -222,6 +233,8 @@ impl LockMachine {
         ensures memory { WantsNone result }
         ensures count { length self.new.threads ≡ length self.old.threads }
         ensures settings { settings_in self.new ≡ settings_in self.old }
+        ensures doors { IfOk result (λ a. PlansDoors (phase_at self.new i) self.old.table
+            self.new.table) }
     {
         if !self.attempt_table(i) {
             return Err(LockRefused::ClockFull);
@@ -240,6 +253,8 @@ impl LockMachine {
         ensures memory { WantsNone result }
         ensures count { length self.new.threads ≡ length self.old.threads }
         ensures settings { settings_in self.new ≡ settings_in self.old }
+        ensures doors { IfOk result (λ a. StartsDoors (phase_at self.new i) self.old.table
+            self.new.table) }
     {
         if !self.attempt_object(i, object) {
             return Err(LockRefused::ClockFull);

@@ -31,6 +31,7 @@ impl LockMachine {
         ensures next { 2 ≤ length self.old.threads → IfSome result (NeedNotFail self.new) }
         ensures count { length self.new.threads ≡ length self.old.threads }
         ensures settings { settings_in self.new ≡ settings_in self.old }
+        ensures table { self.new.table ≡ self.old.table }
     {
         failing_attempts();
         turn_order();

@@ -20,6 +20,8 @@ use Rattle.sequential_object.specs.Object.{State}
 use Rattle.call_turns.specs.Acting.{IsReady, Leaves, StandsChanged, acts_at, cut_to}
 use Rattle.call_turns.specs.Store.{EndsTurn, IsDecided, Stored}
 use Rattle.call_turns.proofs.Acting.{ReadsOrWrites}
+use Rattle.call_turns.proofs.Errands.{key_known, left_adds}
+use Rattle.call_turns.specs.Doors.{KeepsDoors}
 use Rattle.call_turns.proofs.Ending.{MakesNothing, ends_acting, ends_opening, ends_replying, left_made}
 use Rattle.call_turns.proofs.Ending.{reads_or_writes, ready_for, released_ends, released_succeeds}
 use Rattle.call_turns.proofs.store.Store.act.Goals as goal
@@ -97,6 +99,8 @@ returns-in_default c =
     record {
       ends = ends_acting law h c.args.call.now c.args.object c.args.act c.args.change c.requires.can long c.args.carried
           c.requires.decided its c.act_on.result c.act_on.new.self leaves;
+      doors = subst (KeepsDoors h) (sym leaves.1) (left_adds h c.args.object (key_of c.args.act)
+          (acts_at h c.args.object c.args.act c.args.call.now) (key_known h c.args.act c.args.room.now.items ready));
       few = c.act_on.ensures.few few;
       births = (omega (arith, made.0), omega (arith, made.1));
     }

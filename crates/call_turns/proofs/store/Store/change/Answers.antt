@@ -4,6 +4,7 @@ use Rattle.sequential_object.specs.So.{Can}
 use Rattle.descriptor_table.specs.View.{view}
 use Rattle.call_turns.specs.Store.{Stands, Stored}
 use Rattle.call_turns.proofs.Changing.{inside, stands_changed}
+use Rattle.call_turns.proofs.Errands.{one_adds}
 use Rattle.call_turns.proofs.store.Store.change.Goals as goal
 
 pub clear-requires : goal.clear-requires
@@ -25,3 +26,13 @@ returns-clause-stands c = λ w st.
       shows = c.carry_out.ensures.shows w.object stood.shows;
       numbers = c.carry_out.ensures.numbers;
     }))
+
+pub invariant_of-self-inside : goal.invariant_of-self-inside
+invariant_of-self-inside c = (
+  search rules,
+  (
+    one_adds c.self.inside.table.descriptions c.carry_out.new.self.descriptions
+        c.carry_out.ensures.doors c.self.inside.single,
+    tt,
+  ),
+)

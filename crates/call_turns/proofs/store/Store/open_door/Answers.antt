@@ -1,4 +1,4 @@
-use Rattle.std.proofs.Common.{◌≡◌, arith, length, Some, false, w64, to_z, of_z, refl, ap, subst, rules}
+use Rattle.std.proofs.Common.{◌≡◌, inl, arith, length, Some, false, w64, to_z, of_z, refl, ap, subst, rules}
 use Rattle.std.specs.Prelude.{pos}
 use Rattle.posix_terms.specs.declared.limits.TheConstants.Limits as limit
 use Rattle.posix_terms.specs.declared.outcome.Outcome.TheVariants as outcome
@@ -13,7 +13,7 @@ use Rattle.sequential_object.specs.So.{CanDo}
 use Rattle.sequential_object.specs.declared.decision.Deed.{Deed}
 use Rattle.sequential_object.specs.declared.decision.Deed.TheVariants as deed
 use Rattle.descriptor_table.specs.Plans.{errand_of}
-use Rattle.descriptor_table.specs.Table.{IsSound, free_object}
+use Rattle.descriptor_table.specs.Table.{IsSound, TableState, free_object}
 use Rattle.descriptor_table.specs.Agreement.{NumbersStay}
 use Rattle.descriptor_table.specs.Shows.{Shows}
 use Rattle.descriptor_table.specs.View.{names_of, view}
@@ -21,6 +21,7 @@ use Rattle.descriptor_table.specs.declared.plan.Errand.{Errand}
 use Rattle.call_turns.specs.Patience.{EndsOutside}
 use Rattle.call_turns.specs.Store.{IsDecided, Stored, at_port}
 use Rattle.call_turns.proofs.Outside.{door_fails, door_opens, keeps_none, no_door, off_port}
+use Rattle.call_turns.proofs.Errands.{adds_none, one_opened}
 use Rattle.call_turns.proofs.Turning.{can_of, decided_by}
 use Rattle.call_turns.proofs.store.Store.open_door.Goals as goal
 
@@ -37,6 +38,8 @@ returns-in_default c =
           (keeps_none (view h.table) c.args.call.now c.args.locking.object c.args.locking.deed can
           c.in_default.not-Opens);
       few = refl;
+      doors = record { key = 0; adds = λ q e at out. inl (adds_none h.table.descriptions q e at out) };
+      fails = λ failed. refl;
       births = (omega arith, omega arith);
     }
 
@@ -103,3 +106,17 @@ returns-in-Fail-clause-opens c =
     (door_fails c.table_follows_step.ensures.follows h c.args.call.now c.args.carried c.args.locking.object
     c.in-Opens.blocks c.in-Opens.listener c.in-Opens.new decided
     c.in-Fail.error c.fail_outside.result c.args.patience ends)
+
+pub invariant_of-self-inside : goal.invariant_of-self-inside
+invariant_of-self-inside c =
+    let t : TableState = c.self.inside.table in
+    let sound : IsSound t = search rules in
+    let next : free_object t ≡ Some c.in-Opens.new.object = search rules in
+    let free = c.table_follows_step.ensures.follows.next t c.in-Opens.new.object next in (
+      search rules,
+      (
+        one_opened t c.in-Opens.new.object c.open_door-number.new.self.descriptions sound free.1
+            c.open_door-number.ensures.doors c.self.inside.single,
+        tt,
+      ),
+    )

@@ -1,4 +1,5 @@
 use Rattle.descriptor_table.proofs.CanLemmas.{can_so}
+use Rattle.descriptor_table.proofs.DoorLemmas.{changed_adds, changed_ends}
 use Rattle.descriptor_table.proofs.NumberLemmas.{numbers-stay}
 use Rattle.descriptor_table.proofs.ShowsLemmas.{shows_changed}
 use Rattle.descriptor_table.proofs.table.Table.carry_out.Goals as goal
@@ -15,3 +16,9 @@ pub returns-clause-numbers : goal.returns-clause-numbers
 returns-clause-numbers c =
     numbers-stay c.args.self.now c.args.call.now c.args.change c.change.new.self c.known.ensures.table
     (can_so c.args.self.now c.args.call.now c.args.change c.known.ensures.table c.requires.can) c.change.ensures
+
+pub returns-clause-doors : goal.returns-clause-doors
+returns-clause-doors c = changed_adds c.args.self.now c.args.call.now c.args.change c.change.new.self c.change.ensures
+
+pub returns-clause-ends : goal.returns-clause-ends
+returns-clause-ends c = changed_ends c.args.self.now c.args.call.now c.args.change c.change.new.self c.change.ensures

@@ -1,4 +1,5 @@
 use Rattle.descriptor_table.proofs.CanLemmas.{number_free}
+use Rattle.descriptor_table.proofs.DoorLemmas.{door_adds}
 use Rattle.descriptor_table.proofs.FreeLemmas.{next_object}
 use Rattle.descriptor_table.proofs.NumberLemmas.{door_stay}
 use Rattle.descriptor_table.proofs.ShowsLemmas.{shows-door}
@@ -21,3 +22,7 @@ pub returns-clause-numbers : goal.returns-clause-numbers
 returns-clause-numbers c =
     door_stay c.args.self.now c.args.call.now c.args.new c.args.value c.make_door.new.self c.known.ensures.table
     (next_object c.args.self.now c.args.new.object c.requires.next) c.make_door.ensures.opened
+
+pub returns-clause-doors : goal.returns-clause-doors
+returns-clause-doors c =
+    door_adds c.args.self.now c.args.call.now c.args.new c.args.value c.make_door.new.self c.make_door.ensures.opened

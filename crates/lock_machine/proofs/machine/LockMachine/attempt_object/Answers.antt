@@ -1,4 +1,5 @@
-use Rattle.lock_machine.specs.Threads.{joined}
+use Rattle.lock_machine.specs.Threads.{Thread as Seen, joined}
+use Rattle.lock_machine.specs.Views.{no_thread}
 use Rattle.std.proofs.lemmas.List.{length-set}
 use Rattle.lock_machine.proofs.Inside.{inside_of, item_in, turn_of, whole_by, clock_inside, count_kept}
 use Rattle.lock_machine.specs.Whole.{Whole}
@@ -13,6 +14,9 @@ use Rattle.lock_machine.proofs.Bearing.{born_later, few_clocks}
 use Rattle.lock_machine.proofs.RowRoom.{room_at, room_kept}
 use Rattle.lock_machine.proofs.Bearing.{few_kept}
 use Rattle.lock_machine.proofs.Wanting.{waits_at, waits_kept}
+use Rattle.lock_machine.specs.DoorMoves.{StartsDoors}
+use Rattle.lock_machine.specs.declared.thread.Phase.{Phase}
+use Rattle.lock_machine.proofs.DoorSteps.{phase_set, wants_in}
 use Rattle.lock_machine.proofs.machine.LockMachine.attempt_object.Goals as goal
 
 pub returns-in_default-clause-event : goal.returns-in_default-clause-event
@@ -160,3 +164,23 @@ try_object-requires-clause-decided c =
     let inside = inside_of m.threads.items m.clocks v c.args.self.now c.args.i refl c.self.view_is c.requires.inside in
     waits_at m.threads.items c.args.i c.index_mut.result.now m.shared.lock m.shared.rows.items m.shared.store
     m.shared.wanted inside c.index_mut.ensures.value m.wanted
+
+pub returns-clause-doors : goal.returns-clause-doors
+returns-clause-doors c =
+    let m = c.self.inside in
+    let v : Whole = whole_by m.settings m.threads.items m.clocks m.shared.lock m.objects.items m.shared.store
+    m.shared.rows.items in
+    let view : v ≡ c.args.self.now = c.self.view_is in
+    let inside = inside_of m.threads.items m.clocks v c.args.self.now c.args.i refl view c.requires.inside in
+    let x = c.index_mut.result.now in
+    let wants : WantsIn x.phase c.args.object =
+    wants_at m.threads.items c.args.i c.args.object x inside c.index_mut.ensures.value
+    (item_in (λ p. WantsIn p c.args.object) m.threads.items m.clocks v c.args.self.now c.args.i refl view inside
+    c.requires.wants) in
+    let after : Phase =
+    (let t : Seen = get_or (joined (set m.threads.items c.args.i c.try_object.new.thread) c.try_object.new.clocks)
+    c.args.i no_thread in t.phase) in
+    subst (λ (w : Whole). StartsDoors after w.table c.try_object.new.shared.store) view
+    (subst (λ (p : Phase). StartsDoors p m.shared.store c.try_object.new.shared.store)
+    (sym (phase_set m.threads.items c.try_object.new.clocks c.args.i c.try_object.new.thread inside))
+    (c.try_object.ensures.doors (wants_in x.phase c.args.object wants)))

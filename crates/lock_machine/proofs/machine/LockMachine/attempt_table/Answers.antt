@@ -1,11 +1,14 @@
-use Rattle.std.proofs.Common.{Bool, Ok, ◌≡◌, true, rules, subst, refl, ℕ, ◌<◌, length, set, sym}
+use Rattle.std.proofs.Common.{Bool, Ok, ◌≡◌, true, rules, subst, refl, ℕ, ◌<◌, length, get_or, set, sym}
 use Rattle.std.proofs.lemmas.List.{length-set}
 use Rattle.lock_machine.specs.Refusals.{Rests, wants_table}
 use Rattle.lock_machine.specs.Shows.{Attempts}
-use Rattle.lock_machine.specs.Threads.{joined}
+use Rattle.lock_machine.specs.DoorMoves.{PlansDoors}
+use Rattle.lock_machine.specs.Threads.{Thread as Seen, joined}
+use Rattle.lock_machine.specs.Views.{no_thread}
 use Rattle.lock_machine.specs.Whole.{Whole}
 use Rattle.lock_machine.specs.declared.thread.Phase.{Phase}
 use Rattle.lock_machine.proofs.AttemptEvents.{try_done}
+use Rattle.lock_machine.proofs.DoorSteps.{phase_set}
 use Rattle.lock_machine.proofs.EventShows.{item_agrees, item_of}
 use Rattle.lock_machine.proofs.Inside.{clock_inside, count_kept, inside_of, item_in, phase_in, turn_of, whole_by}
 use Rattle.lock_machine.proofs.Refusing.{table_phase}
@@ -145,3 +148,21 @@ try_table-requires-clause-decided c =
     let inside = inside_of m.threads.items m.clocks v c.args.self.now c.args.i refl c.self.view_is c.requires.inside in
     waits_at m.threads.items c.args.i c.index_mut.result.now m.shared.lock m.shared.rows.items m.shared.store
     m.shared.wanted inside c.index_mut.ensures.value m.wanted
+
+pub returns-clause-doors : goal.returns-clause-doors
+returns-clause-doors c =
+    let m = c.self.inside in
+    let v : Whole = whole_by m.settings m.threads.items m.clocks m.shared.lock m.objects.items m.shared.store
+    m.shared.rows.items in
+    let view : v ≡ c.args.self.now = c.self.view_is in
+    let inside = inside_of m.threads.items m.clocks v c.args.self.now c.args.i refl view c.requires.inside in
+    let x = c.index_mut.result.now in
+    let P : Phase → Type 0 = λ p. wants_table p ≡ true in
+    let wants = item_in P m.threads.items m.clocks v c.args.self.now c.args.i refl view inside c.requires.wants in
+    let after : Phase =
+    (let t : Seen = get_or (joined (set m.threads.items c.args.i c.try_table.new.thread) c.try_table.new.clocks)
+    c.args.i no_thread in t.phase) in
+    subst (λ (w : Whole). PlansDoors after w.table c.try_table.new.shared.store) view
+    (subst (λ (p : Phase). PlansDoors p m.shared.store c.try_table.new.shared.store)
+    (sym (phase_set m.threads.items c.try_table.new.clocks c.args.i c.try_table.new.thread inside))
+    (c.try_table.ensures.doors (phase_in P m.threads.items c.args.i x inside c.index_mut.ensures.value wants)))
