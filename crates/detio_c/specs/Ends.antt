@@ -3,7 +3,8 @@ use Rattle.std.specs.Prelude.{ℕ, List, Bool, Option, Some, None, length}
 use Rattle.std.specs.Prelude.{if◌then◌else◌, ◌==◌, ◌&&◌}
 use Rattle.c_words.specs.declared.words.OutcomeWords.{OutcomeWords}
 use Rattle.c_words.specs.declared.words.RunEnd.{RunEnd}
-use Rattle.machine.specs.Doors.{brings_back, is_ok, opens_door}
+use Rattle.call_turns.specs.Doors.{brings_back, is_ok}
+use Rattle.machine.specs.Doors.{opens_door}
 use Rattle.machine.specs.declared.stop.Stop.{Stop}
 use Rattle.machine.specs.declared.stop.Stop.TheVariants as stop
 use Rattle.posix_terms.specs.declared.outcome.OutKind.{OutKind}

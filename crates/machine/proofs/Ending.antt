@@ -131,6 +131,12 @@ grown law c e old new count made s h =
     let arises = law (setup_with old c s) (start_under (terms_with old (supply_with c s))) s e h.0 in
     (m.0, ends_at old new (supply_with c s) (happens (setup_with old c s) e s) count arises m.1)
 
+-- the end of a run that led to the old machine leads by this event to that of one that leads to the new machine
+pub record Leads (old new : Whole) (c : Coming) (e : Event) (s : State) : Type 0 where
+  pub before : IsEnd old s
+  pub allowed : is_allowed (setup_with old c s) e s ≡ true
+  pub after : IsEnd new (happens (setup_with old c s) e s)
+
 -- ## Asking
 
 pub ask_made : (i : ℕ) (x : Step) (old new : Whole) → AsksFor true i x old new → IsMade (Asks x) (Advances i) old new

@@ -2,58 +2,34 @@
 use Rattle.posix_terms.specs.declared.transcript.Settings.{Settings}
 use Rattle.input_log.specs.Headers.{header_for}
 use Rattle.machine.specs.Records.{as_logged}
-use Rattle.std.proofs.Common.{◌≡◌, ℕ, length, List, Option, Bool, true, false, sym, refl, ap, ap₂, ◌∙◌, subst, map}
+use Rattle.std.proofs.Common.{◌≡◌, ℕ, length, List, Option, Some, Bool, true, false, sym, refl, ap, ap₂, ◌∙◌}
+use Rattle.std.proofs.Common.{subst, map}
 use Rattle.std.proofs.lemmas.Bool.{false≢true, true≢false}
-use Rattle.lock_machine.specs.Refusals.{goes_outside, has_answer, is_blocked, is_outside, phase_at, works}
+use Rattle.lock_machine.specs.Refusals.{goes_outside, phase_at}
 use Rattle.lock_machine.specs.Conditions.{start_under}
-use Rattle.lock_machine.specs.Shows.{PhaseShows}
-use Rattle.lock_machine.specs.Whole.{Whole, settings_in, thread_at}
-use Rattle.lock_machine.specs.Threads.{Thread}
+use Rattle.lock_machine.specs.Whole.{Whole, settings_in}
 use Rattle.lock_machine.specs.declared.thread.Phase.{Phase}
 use Rattle.lock_machine.specs.declared.thread.Phase.TheVariants as phase
 use Rattle.lock_model.specs.Came.{CameOutside}
+use Rattle.lock_model.specs.Events.{thread_in}
 use Rattle.lock_model.specs.Laws.{ArisesByEvent}
 use Rattle.lock_model.specs.Machine.{Event, happens}
 use Rattle.lock_model.specs.Machine.Event.{Advances, Attempts}
-use Rattle.lock_model.specs.Runs.{own}
-use Rattle.lock_model.specs.State as lock
 use Rattle.lock_model.specs.State.{Job, State, thread_of}
-use Rattle.lock_model.specs.State.Phase.{Blocked, Ended, Granted, Outside, Recorded, ToOutside, WantsObject, WantsTable}
-use Rattle.lock_model.specs.State.Phase.{Working}
-use Rattle.machine.specs.DoorsThere.{DoorsThere}
+use Rattle.lock_model.specs.State.Phase.{Outside}
+use Rattle.machine.specs.DoorsThere.{Claim, DoorsThere, claim_in, claims_in}
+use Rattle.machine.specs.DoorsThere.Stage.{Out}
 use Rattle.machine.specs.Kept.{IsKept, header_of}
 use Rattle.machine.specs.Runs.{Coming, IsEnd, setup_with, supply_with, terms_with}
 use Rattle.machine.specs.Shown.{Shown}
-use Rattle.machine.proofs.Ending.{IsMade, ends_at}
+use Rattle.machine.proofs.ClaimsShown.{claim_of, claims_shown, home_inside, is_home}
+use Rattle.machine.proofs.Ending.{IsMade, Leads, ends_at}
 
--- ## Which threads are outside
+-- ## Events in which nothing comes
 
-abbrev outside_in : lock.Phase → Bool
-outside_in (Outside job) = true
-outside_in p = false
-
-not_outside : (p : lock.Phase) (job : Job) → outside_in p ≡ false → p ≡ Outside job → ⊥
-not_outside p job h is = true≢false (ap outside_in (sym is) ∙ h)
-
-shown_outside : (w : Whole) (s : State) (i : ℕ) (t : Thread) (u : lock.Thread) (p : Phase)
-    → PhaseShows (terms_with w (own s)) i s.rows t u p → is_outside p ≡ false → outside_in u.phase ≡ false
-shown_outside w s i t u phase.Working h q = ap outside_in h
-shown_outside w s i t u (phase.WantsTable call carried) h q = ap outside_in h
-shown_outside w s i t u (phase.WantsObject call carried clock object) h q = ap outside_in h.1.0
-shown_outside w s i t u (phase.Granted place object ends) h q = ap outside_in h.1.0
-shown_outside w s i t u (phase.ToOutside o) h q = ap outside_in h.1.0
-shown_outside w s i t u (phase.Outside o) h q = absurd (true≢false q)
-shown_outside w s i t u (phase.Recorded o) h q = ap outside_in h.1.0
-shown_outside w s i t u (phase.Blocked carried) h q = ap outside_in h.1
-shown_outside w s i t u phase.Ended h q = ap outside_in h
-
--- nothing can come in this event, whichever run leads to the machine
+-- whichever run leads to the machine
 abbrev pub IsQuiet : Event → Whole → Type 0
 IsQuiet e w = (s : State) → IsEnd w s → (k : ℕ) → e ≡ Advances k → (job : Job) → (thread_of s k).phase ≡ Outside job → ⊥
-
-abbrev thread_in : Event → ℕ
-thread_in (Advances i) = i
-thread_in (Attempts i) = i
 
 abbrev is_attempt : Event → Bool
 is_attempt (Advances i) = false
@@ -62,96 +38,21 @@ is_attempt (Attempts i) = true
 pub attempt_quiet : (i : ℕ) (w : Whole) → IsQuiet (Attempts i) w
 attempt_quiet i w s h k is job out = true≢false (ap is_attempt is)
 
-inside_quiet : (i : ℕ) (w : Whole) → is_outside (phase_at w i) ≡ false → IsQuiet (Advances i) w
+inside_quiet : (i : ℕ) (w : Whole) → ((c : Claim) → claims_in w i ≡ Some c → c.stage ≡ Out → ⊥) → IsQuiet (Advances i) w
 inside_quiet i w inside s h k is job out =
     let here : (thread_of s i).phase ≡ Outside job = subst (λ (n : ℕ). (thread_of s n).phase ≡ Outside job)
     (sym (ap thread_in is)) out in
-    not_outside (thread_of s i).phase job
-    (shown_outside w s i (thread_at w i) (thread_of s i) (phase_at w i) (h.1.threads i).phase inside) here
+    inside _ (claims_shown w s i h ∙ ap claim_of here) refl
 
-working_inside : (p : Phase) → works p ≡ true → is_outside p ≡ false
-working_inside phase.Working h = refl
-working_inside p h = absurd (false≢true h)
-
-going_inside : (p : Phase) → goes_outside p ≡ true → is_outside p ≡ false
-going_inside (phase.ToOutside o) h = refl
-going_inside p h = absurd (false≢true h)
-
-answering_inside : (p : Phase) → has_answer p ≡ true → is_outside p ≡ false
-answering_inside (phase.Granted row object ends) h = refl
-answering_inside (phase.Recorded o) h = refl
-answering_inside p h = absurd (false≢true h)
-
-blocked_inside : (p : Phase) → is_blocked p ≡ true → is_outside p ≡ false
-blocked_inside (phase.Blocked carried) h = refl
-blocked_inside p h = absurd (false≢true h)
-
-pub working_quiet : (i : ℕ) (w : Whole) → works (phase_at w i) ≡ true → IsQuiet (Advances i) w
-working_quiet i w h = inside_quiet i w (working_inside (phase_at w i) h)
+pub home_quiet : (i : ℕ) (w : Whole) → is_home (claims_in w i) ≡ true → IsQuiet (Advances i) w
+home_quiet i w home = inside_quiet i w (λ c has out. home_inside (claims_in w i) c home has out)
 
 pub going_quiet : (i : ℕ) (w : Whole) → goes_outside (phase_at w i) ≡ true → IsQuiet (Advances i) w
-going_quiet i w h = inside_quiet i w (going_inside (phase_at w i) h)
-
-pub answering_quiet : (i : ℕ) (w : Whole) → has_answer (phase_at w i) ≡ true → IsQuiet (Advances i) w
-answering_quiet i w h = inside_quiet i w (answering_inside (phase_at w i) h)
-
-pub blocked_quiet : (i : ℕ) (w : Whole) → is_blocked (phase_at w i) ≡ true → IsQuiet (Advances i) w
-blocked_quiet i w h = inside_quiet i w (blocked_inside (phase_at w i) h)
-
--- ## Which threads go there
-
-abbrev going_in : lock.Phase → Bool
-going_in (ToOutside job) = true
-going_in p = false
-
-shown_going : (w : Whole) (s : State) (i : ℕ) (t : Thread) (u : lock.Thread) (p : Phase)
-    → PhaseShows (terms_with w (own s)) i s.rows t u p → goes_outside p ≡ false → going_in u.phase ≡ false
-shown_going w s i t u phase.Working h q = ap going_in h
-shown_going w s i t u (phase.WantsTable call carried) h q = ap going_in h
-shown_going w s i t u (phase.WantsObject call carried clock object) h q = ap going_in h.1.0
-shown_going w s i t u (phase.Granted place object ends) h q = ap going_in h.1.0
-shown_going w s i t u (phase.ToOutside o) h q = absurd (true≢false q)
-shown_going w s i t u (phase.Outside o) h q = ap going_in h.1.0
-shown_going w s i t u (phase.Recorded o) h q = ap going_in h.1.0
-shown_going w s i t u (phase.Blocked carried) h q = ap going_in h.1
-shown_going w s i t u phase.Ended h q = ap going_in h
-
--- no call goes outside in this event, whichever run leads to the machine
-abbrev pub StaysHome : Event → Whole → Type 0
-StaysHome e w = (s : State) → IsEnd w s → (k : ℕ) → e ≡ Advances k → (job : Job) → (thread_of s k).phase ≡ ToOutside job
-    → ⊥
-
-pub attempt_home : (i : ℕ) (w : Whole) → StaysHome (Attempts i) w
-attempt_home i w s h k is job there = true≢false (ap is_attempt is)
-
-inside_home : (i : ℕ) (w : Whole) → goes_outside (phase_at w i) ≡ false → StaysHome (Advances i) w
-inside_home i w inside s h k is job there =
-    let here : (thread_of s i).phase ≡ ToOutside job = subst (λ (n : ℕ). (thread_of s n).phase ≡ ToOutside job)
-    (sym (ap thread_in is)) there in
-    true≢false (ap going_in (sym here)
-    ∙ shown_going w s i (thread_at w i) (thread_of s i) (phase_at w i) (h.1.threads i).phase inside)
-
-working_home_in : (p : Phase) → works p ≡ true → goes_outside p ≡ false
-working_home_in phase.Working h = refl
-working_home_in p h = absurd (false≢true h)
-
-answering_home_in : (p : Phase) → has_answer p ≡ true → goes_outside p ≡ false
-answering_home_in (phase.Granted row object ends) h = refl
-answering_home_in (phase.Recorded o) h = refl
-answering_home_in p h = absurd (false≢true h)
-
-blocked_home_in : (p : Phase) → is_blocked p ≡ true → goes_outside p ≡ false
-blocked_home_in (phase.Blocked carried) h = refl
-blocked_home_in p h = absurd (false≢true h)
-
-pub working_home : (i : ℕ) (w : Whole) → works (phase_at w i) ≡ true → StaysHome (Advances i) w
-working_home i w h = inside_home i w (working_home_in (phase_at w i) h)
-
-pub answering_home : (i : ℕ) (w : Whole) → has_answer (phase_at w i) ≡ true → StaysHome (Advances i) w
-answering_home i w h = inside_home i w (answering_home_in (phase_at w i) h)
-
-pub blocked_home : (i : ℕ) (w : Whole) → is_blocked (phase_at w i) ≡ true → StaysHome (Advances i) w
-blocked_home i w h = inside_home i w (blocked_home_in (phase_at w i) h)
+going_quiet i w goes = inside_quiet i w (by_phase (phase_at w i) goes)
+  where
+    by_phase : (p : Phase) → goes_outside p ≡ true → (c : Claim) → claim_in w.rows p ≡ Some c → c.stage ≡ Out → ⊥
+    by_phase (phase.ToOutside o) is c has out = cc
+    by_phase p is c has out = false≢true is
 
 -- ## The header
 
@@ -166,15 +67,14 @@ header_stays old new count same = ap₂ header_for same count
 pub kept_quietly : (D : Type 0) (m : Shown D) (w : Whole) (doors : List (Option D)) (c : Coming) (e : Event)
     → ArisesByEvent → CameOutside → (h : IsKept D m) → length w.threads ≡ length m.whole.threads
     → settings_in w ≡ settings_in m.whole → IsMade c e m.whole w → IsQuiet e m.whole → length doors ≡ length m.doors
-    → (let z = happens (setup_with m.whole c h.end) e h.end in IsEnd w z → DoorsThere D z doors)
+    → (Leads m.whole w c e h.end → DoorsThere D w doors)
     → IsKept D (record m { whole = w; doors = doors })
 kept_quietly D m w doors c e arises outside h count settings made quiet same_doors there =
     let s = h.end in
     let setup = setup_with m.whole c s in
-    let shows = (made s h.ends).1 in
     let z = happens setup e s in
     let behind = ends_at m.whole w (supply_with c s) z count
-    (arises setup (start_under (terms_with m.whole (supply_with c s))) s e h.ends.0) shows in
+    (arises setup (start_under (terms_with m.whole (supply_with c s))) s e h.ends.0) (made s h.ends).1 in
     record {
       end = z;
       ends = behind;
@@ -188,5 +88,5 @@ kept_quietly D m w doors c e arises outside h count settings made quiet same_doo
       failed = h.failed;
       strayed = h.strayed;
       doors = same_doors ∙ h.doors;
-      there = there behind;
+      there = there (record { before = h.ends; allowed = (made s h.ends).0; after = behind });
     }

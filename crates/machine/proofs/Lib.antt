@@ -3,6 +3,10 @@ pub mod Beginning
 pub mod AskedKinds
 pub mod Clocks
 pub mod Covering
+pub mod Claims
+pub mod ClaimsShown
+pub mod DoorNames
+pub mod DoorsKept
 pub mod Keeping
 pub mod Recording
 pub mod Going
@@ -10,11 +14,4 @@ pub mod Coming
 pub mod Starting
 pub mod Asking
 pub mod EndsLast
-pub mod Numbered
-pub mod NoNewDoors
-pub mod DoorCalls
-pub mod Naming
-pub mod DoorsHeld
-pub mod DoorEvents
-pub mod DoorsKept
 pub mod Skipping

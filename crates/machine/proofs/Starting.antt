@@ -74,5 +74,5 @@ first_kept D settings n arises shows range =
       failed = refl;
       strayed = refl;
       doors = let none : Option D = None in length-replicate limit.OBJECTS none;
-      there = first_doors D n;
+      there = first_doors D settings n;
     }

@@ -4,7 +4,7 @@ use Rattle.lock_machine.specs.Requests.{AskTheirKind}
 use Rattle.lock_model.specs.Events.{EventLaws}
 use Rattle.lock_model.specs.Laws.{LocksOfArisen, PlansOfArisen}
 use Rattle.call_turns.specs.Errands.{LocksNext, TakesLocked}
-use Rattle.sequential_object.specs.So.{DecidedSo}
+use Rattle.call_turns.specs.Store.{LocksAsStep}
 
 -- the laws of locks, plans, events and requests by which each event keeps each door there
 pub record DoorLaws : Type 0 where
@@ -13,5 +13,5 @@ pub record DoorLaws : Type 0 where
   pub events : EventLaws
   pub takes : TakesLocked
   pub next : LocksNext
-  pub so : DecidedSo
+  pub numbers : LocksAsStep
   pub kinds : AskTheirKind

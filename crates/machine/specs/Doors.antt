@@ -10,7 +10,7 @@ use Rattle.posix_terms.specs.Outcomes.{fits}
 use Rattle.posix_terms.specs.declared.outcome.OutKind.{OutKind}
 use Rattle.posix_terms.specs.declared.outcome.OutKind.TheVariants as out
 use Rattle.posix_terms.specs.declared.outcome.Outcome.{Outcome}
-use Rattle.posix_terms.specs.declared.outcome.Outcome.TheVariants as outcome
+use Rattle.call_turns.specs.Doors.{brings_back, is_ok, takes_along}
 
 -- the door that stands at a number, if there is a number
 abbrev pub door_at : {D : Type 0} → List (Option D) → Option ℕ → Option D
@@ -35,26 +35,7 @@ doors_after doors o old new = put (put doors o.errand.door old) o.object new
 
 -- ## What goes with an outcome
 
--- the outcome is a success
-abbrev pub is_ok : Outcome → Bool
-is_ok (outcome.Ok value bytes) = true
-is_ok (outcome.Fail error) = false
-
--- the kinds of requests for which a door goes out and comes back
-abbrev pub brings_back : OutKind → Bool
-brings_back out.Read = true
-brings_back out.Write = true
-brings_back out.Seek = true
-brings_back out.Shutdown = true
-brings_back out.Accept = true
-brings_back k = false
-
--- those for which one goes out: a door that is closed does not come back
-abbrev pub takes_along : OutKind → Bool
-takes_along out.Close = true
-takes_along k = brings_back k
-
--- those by which one is opened
+-- the kinds of requests by which a door is opened
 abbrev pub opens_door : OutKind → Bool
 opens_door out.Open = true
 opens_door out.Listen = true

@@ -1,108 +1,116 @@
 -- Believed: a contract of the headline stands on it.
 -- Which doors a machine has: whenever one goes out, it is there.
-use Rattle.std.specs.Prelude.{◌≡◌, ℕ, Bool, true, false, List, Option, Some, None, get_or, is_some}
-use Rattle.std.specs.Prelude.{slice_index_or}
-use Rattle.std.specs.FinMap as fin
-use Rattle.lock_model.specs.Held.{object_in}
-use Rattle.sequential_object.specs.Answers.{numbered, outcome_in}
-use Rattle.lock_model.specs.State as lock
-use Rattle.lock_model.specs.State.{Job, thread_of}
-use Rattle.lock_model.specs.State.Phase.{Outside, Recorded, ToOutside}
-use Rattle.sequential_object.specs.Worlds.{World}
-use Rattle.call_turns.specs.Errands.{door_taken}
-use Rattle.sequential_object.specs.Deciding.{leads_outside}
-use Rattle.sequential_object.specs.Locked.{keeps_table}
-use Rattle.sequential_object.specs.Object.{Description, State}
-use Rattle.sequential_object.specs.Step.{asks}
+use Rattle.std.specs.Prelude.{◌≡◌, ◌⊎◌, ℕ, Bool, true, false, List, Option, Some, None, get_or}
+use Rattle.std.specs.Prelude.{is_some, slice_get}
+use Rattle.descriptor_table.specs.Doors.{HaveOne, LeadsTo}
+use Rattle.call_turns.specs.Doors.{brings_back, is_listener, is_ok, takes_along}
+use Rattle.call_turns.specs.Store.{Stored}
+use Rattle.lock_machine.specs.Refusals.{phase_at}
+use Rattle.lock_machine.specs.Whole.{Whole}
+use Rattle.lock_machine.specs.declared.thread.Outing.{Outing}
+use Rattle.lock_machine.specs.declared.thread.Phase.{Phase}
+use Rattle.lock_machine.specs.declared.thread.Phase.TheVariants as phase
 use Rattle.posix_terms.specs.declared.object.Door.{Door}
-use Rattle.posix_terms.specs.declared.object.Door.TheVariants as door
-use Rattle.posix_terms.specs.declared.object.End.TheVariants as part
 use Rattle.posix_terms.specs.declared.outcome.Outcome.{Outcome}
-use Rattle.posix_terms.specs.Queries.{Query}
-use Rattle.machine.specs.Doors.{brings_back, is_ok}
+use Rattle.posix_terms.specs.declared.transcript.HistoryRow.{HistoryRow}
 
--- ## Which numbers are those of doors
-
--- a description of this object leads outside, by this door
-pub record LeadsOut (s : State) (object : ℕ) (d : Door) : Type 0 where
-  pub key : ℕ
-  pub description : Description
-  pub there : fin.get s.descriptions key ≡ Some description
-  pub own : description.object ≡ object
-  pub which : description.«end» ≡ part.Door d
-
--- a description of the object with this number leads outside, by this door
-abbrev pub Names : World → ℕ → Door → Type 0
-Names w n d =
-    (object : ℕ) × ((slice_index_or w.numbers n None ≡ Some object) × LeadsOut w.object object d)
-
--- at most one description of an object leads outside
-abbrev pub HaveOne : State → Type 0
-HaveOne s = (q r : ℕ) (e f : Description) → fin.get s.descriptions q ≡ Some e
-    → fin.get s.descriptions r ≡ Some f → e.object ≡ f.object
-    → leads_outside e.«end» ≡ true → leads_outside f.«end» ≡ true → q ≡ r
-
--- the door is a listener
-abbrev pub is_listener : Door → Bool
-is_listener (door.Listener port) = true
-is_listener d = false
+-- the object with this number is a door: a description of it leads outside
+abbrev pub Names : Stored → ℕ → Door → Type 0
+Names h n d = LeadsTo h.table.descriptions n d
 
 -- ## Calls that go outside
-
--- the number of the door that a granted call takes along
-abbrev pub door_of : Job → Option ℕ
-door_of job = numbered job.found (door_taken job.found.object job.call job.carried)
-
--- the call that a thread goes outside with, or is outside with, or is back from
-abbrev pub job_out : lock.Phase → Option Job
-job_out (ToOutside job) = Some job
-job_out (Outside job) = Some job
-job_out (Recorded job) = Some job
-job_out p = None
-
--- there is a request, and it is of a kind for which the door comes back
-abbrev pub comes_back_of : Option Query → Bool
-comes_back_of (Some r) = brings_back r.kind
-comes_back_of None = false
-
--- the door of this call comes back with its outcome: it is not closed
-abbrev pub comes_back : Job → Bool
-comes_back job = comes_back_of (asks job.found.object job.call job.carried)
 
 -- an outcome came, and it is a success
 abbrev pub is_success : Option Outcome → Bool
 is_success (Some x) = is_ok x
 is_success None = false
 
+-- the outcome of a row, if it is there and has one
+abbrev pub outcome_of : Option HistoryRow → Option Outcome
+outcome_of (Some q) = q.outcome
+outcome_of None = None
+
+-- how far a call is that goes outside: it is to go, is there, or is back, with a success or not
+pub data Stage : Type 0 where
+  Going : Stage
+  Out : Stage
+  Back : (opened : Bool) → Stage
+
+-- what such a call has to do with doors: which number's door it takes along, which number's lock it
+-- holds, whether it keeps the table to open a door, whether the door that it takes along comes
+-- back, and whether its kind takes one
+pub record Claim : Type 0 where
+  pub stage : Stage
+  pub takes : Option ℕ
+  pub locks : Option ℕ
+  pub keeps : Bool
+  pub returns : Bool
+  pub along : Bool
+
+-- by the call
+abbrev pub claim_by : Stage → Outing → Claim
+claim_by stage o = record {
+  stage = stage;
+  takes = o.errand.door;
+  locks = o.object;
+  keeps = o.keeps_table;
+  returns = brings_back o.errand.kind;
+  along = takes_along o.errand.kind;
+}
+
+-- that of a thread in this phase
+abbrev pub claim_in : List HistoryRow → Phase → Option Claim
+claim_in rows (phase.ToOutside o) = Some (claim_by Going o)
+claim_in rows (phase.Outside o) = Some (claim_by Out o)
+claim_in rows (phase.Recorded o) =
+    Some (claim_by (Back (is_success (outcome_of (slice_get rows o.row)))) o)
+claim_in rows p = None
+
+-- those of all threads
+abbrev pub claims_in : Whole → ℕ → Option Claim
+claims_in w i = claim_in w.rows (phase_at w i)
+
 -- ## Which doors have to be there
 
 -- nobody is outside with the door of this number
-abbrev pub IsHome : lock.State → ℕ → Type 0
-IsHome s n = (i : ℕ) (job : Job) → (thread_of s i).phase ≡ Outside job → door_of job ≡ Some n → ⊥
+abbrev pub IsHome : (ℕ → Option Claim) → ℕ → Type 0
+IsHome claims n = (i : ℕ) (c : Claim) → claims i ≡ Some c → c.stage ≡ Out → c.takes ≡ Some n → ⊥
 
 -- the door of this number has to be there
-pub data Needs (s : lock.State) (n : ℕ) : Type 0 where
+pub data Needs (claims : ℕ → Option Claim) (named : ℕ → Door → Type 0) (n : ℕ) : Type 0 where
   -- its object is a door, with which nobody is outside
-  IsBorn : (d : Door) → (named : Names s.world n d) → (home : IsHome s n) → Needs s n
+  IsBorn : (d : Door) → (is : named n d) → (home : IsHome claims n) → Needs claims named n
   -- a call is to go outside with it
-  GoesWith : (i : ℕ) → (job : Job) → (there : (thread_of s i).phase ≡ ToOutside job)
-      → (takes : door_of job ≡ Some n) → Needs s n
+  GoesWith : (i : ℕ) → (c : Claim) → (has : claims i ≡ Some c) → (goes : c.stage ≡ Going)
+      → (takes : c.takes ≡ Some n) → Needs claims named n
   -- it was opened, and its object is born with the answer
-  WasOpened : (i : ℕ) → (job : Job) → (there : (thread_of s i).phase ≡ Recorded job)
-      → (keeps : keeps_table job.call ≡ true)
-      → (opened : is_success (outcome_in job.outcome) ≡ true)
-      → (locks : object_in job.plan ≡ Some n) → Needs s n
+  WasOpened : (i : ℕ) → (c : Claim) → (has : claims i ≡ Some c) → (back : c.stage ≡ Back true)
+      → (keeps : c.keeps ≡ true) → (locks : c.locks ≡ Some n) → Needs claims named n
 
 -- a door stands there
 abbrev pub is_there : {D : Type 0} → List (Option D) → ℕ → Bool
 is_there doors n = is_some (get_or doors n None)
 
--- in this state each door that a call needs is there when the call goes outside
-pub record DoorsThere (D : Type 0) (s : lock.State) (doors : List (Option D)) : Type 0 where
-  pub needed : (n : ℕ) → Needs s n → is_there doors n ≡ true
+-- a call takes along the door of this number, or opens it
+abbrev pub Has : Claim → ℕ → Type 0
+Has c n = (c.takes ≡ Some n) ⊎ ((c.keeps ≡ true) × (c.locks ≡ Some n))
+
+-- under these claims, and where these numbers are those of doors, each door that has to be there is
+pub record AreThere (D : Type 0) (claims : ℕ → Option Claim) (named : ℕ → Door → Type 0)
+    (doors : List (Option D)) : Type 0 where
+  pub needed : (n : ℕ) → Needs claims named n → is_there doors n ≡ true
   -- a call that freed the table holds the lock of its door's number, which is then that of no
   -- listener, nor of any door if it is closed
-  pub apart : (i n : ℕ) (job : Job) (d : Door) → job_out (thread_of s i).phase ≡ Some job
-      → keeps_table job.call ≡ false → door_of job ≡ Some n → Names s.world n d
-      → (is_listener d ≡ false) × (comes_back job ≡ true)
-  pub single : HaveOne s.world.object
+  pub apart : (i n : ℕ) (c : Claim) (d : Door) → claims i ≡ Some c → c.keeps ≡ false
+      → c.takes ≡ Some n → named n d → (is_listener d ≡ false) × (c.returns ≡ true)
+  -- nobody else has the door that a call takes along
+  pub own : (i k n : ℕ) (c e : Claim) → claims i ≡ Some c → claims k ≡ Some e → c.takes ≡ Some n
+      → Has e n → i ≡ k
+  -- a call takes a door exactly when its kind does; with the table kept, one that comes back
+  pub kinds : (i : ℕ) (c : Claim) → claims i ≡ Some c → (is_some c.takes ≡ c.along)
+      × ((n : ℕ) → c.keeps ≡ true → c.takes ≡ Some n → c.returns ≡ true)
+
+-- each door that a call of the machine needs is there when the call goes outside
+pub record DoorsThere (D : Type 0) (w : Whole) (doors : List (Option D)) : Type 0 where
+  pub there : AreThere D (claims_in w) (Names w.table) doors
+  pub single : HaveOne w.table.table.descriptions

@@ -49,4 +49,4 @@ pub record IsKept (D : Type 0) (m : Shown D) : Type 0 where
   pub failed : m.log.failed ≡ is_sink m.stop
   pub strayed : is_strayed m.stop ≡ false
   pub doors : length m.doors ≡ limit.OBJECTS
-  pub there : DoorsThere D end m.doors
+  pub there : DoorsThere D m.whole m.doors

@@ -1,7 +1,7 @@
-ghost use Rattle.std.specs.Prelude.{◌≡◌, ◌<◌, IfOk, length};
+ghost use Rattle.std.specs.Prelude.{◌≡◌, ◌<◌, true, IfOk, OnErr, is_some, length};
 ghost use Rattle.lock_machine.specs.Refusals.{phase_at};
-ghost use Rattle.machine.specs.Doors.{brings_back, is_answer, is_answer_to, is_ok};
-ghost use Rattle.machine.specs.Doors.{exactly_where, opens_door};
+ghost use Rattle.call_turns.specs.Doors.{brings_back, is_ok};
+ghost use Rattle.machine.specs.Doors.{exactly_where, is_answer, is_answer_to, opens_door};
 ghost use Rattle.machine.specs.Requests.{IsOutsideTurn, IsRequest, awaited, out_of};
 
 use crate::machine::Machine;
@@ -18,7 +18,8 @@ impl<S: LogSink, D: Drop> Machine<S, D> {
     /// others make their events; so [`Machine::begin_outside`] need not copy the call.
     pub fn request(&self, i: usize) -> Result<Option<Request>, AllocError>
         requires { i < length self.now.whole.threads }
-        ensures { IfOk result (λ request. IsRequest self.now.whole i request) }
+        ensures request { IfOk result (λ request. IsRequest self.now.whole i request) }
+        ensures memory { OnErr result (is_some (out_of (phase_at self.now.whole i)) ≡ true) }
     {
         let Some(outing) = out_of(self.calls.phase(i)) else {
             return Ok(None);

@@ -7,8 +7,8 @@ use Rattle.machine.specs.Shown.{Shown}
 use Rattle.machine.proofs.Asking.{is_request}
 use Rattle.machine.proofs.machine.Machine.request.Goals as goal
 
-pub returns : goal.returns
-returns g c =
+pub returns-clause-request : goal.returns-clause-request
+returns-clause-request g c =
     let m = c.self.inside in
     let o = c.in-Some.outing in
     let row = c.index-rows-outing.result in
