@@ -1,6 +1,7 @@
-ghost use Rattle.std.specs.Prelude.{◌≡◌, ℕ, List, true, false, Some, None, Err, IfOk};
+ghost use Rattle.std.specs.Prelude.{◌≡◌, ℕ, List, true, false, Some, IfErr, IfOk};
 ghost use Rattle.c_words.specs.Calls.{access_of, call_as, call_of, flags_of, has_text, how_of};
 ghost use Rattle.c_words.specs.Calls.{kind_of, name_call, number_call, whence_of};
+ghost use Rattle.c_words.specs.Faults.{IsUnsaid};
 ghost use Rattle.c_words.specs.declared.fault.LibraryFault.TheVariants as fault;
 
 use crate::fault::LibraryFault;
@@ -16,8 +17,8 @@ pub fn call_of(
     second: &[u8],
 ) -> Result<Call, LibraryFault>
     ensures ok { IfOk result (λ call. call_of words.now text.now second.now ≡ Some call) }
-    ensures none { result ≡ Err fault.NotACall
-        → call_of words.now text.now second.now ≡ None }
+    ensures refused { IfErr result
+        (IsUnsaid fault.NotACall (call_of words.now text.now second.now)) }
 {
     if words.flags > 31 {
         return Err(LibraryFault::NotACall);

@@ -1,5 +1,7 @@
-ghost use Rattle.std.specs.Prelude.{◌≡◌, IfOk, Some, length, take};
+ghost use Rattle.std.specs.Prelude.{◌≡◌, ◌<◌, IfErr, IfOk, Some, length, take};
+ghost use Rattle.c_words.specs.Faults.{IsUnsaid};
 ghost use Rattle.c_words.specs.Words.{bytes_that_came, outcome_of, outcome_words};
+ghost use Rattle.c_words.specs.declared.fault.LibraryFault.TheVariants as fault;
 
 use crate::fault::LibraryFault;
 use crate::fronts::put_front;
@@ -13,7 +15,9 @@ pub fn outcome_of(
     words: &OutcomeWords,
     bytes: &[u8],
 ) -> Result<Outcome, LibraryFault>
-    ensures { IfOk result (λ o. outcome_of words.now bytes.now ≡ Some o) }
+    ensures ok { IfOk result (λ o. outcome_of words.now bytes.now ≡ Some o) }
+    ensures refused { IfErr result
+        (IsUnsaid fault.NoAnswer (outcome_of words.now bytes.now)) }
 {
     if words.error == 0 {
         return Ok(Outcome::Ok {
@@ -35,6 +39,8 @@ pub fn outcome_words(outcome: &Outcome, buffer: &mut [u8]) -> Result<OutcomeWord
     ensures words { IfOk result (λ words. words ≡ outcome_words outcome.now) }
     ensures bytes { IfOk result (λ words. take (length (bytes_that_came outcome.now)) buffer.new
         ≡ bytes_that_came outcome.now) }
+    ensures refused { IfErr result (λ f. (f ≡ fault.NoRoom)
+        × (length buffer.old < length (bytes_that_came outcome.now))) }
 {
     let blank = OutcomeWords {
         error: 0,
