@@ -1,4 +1,5 @@
 pub mod Attempting
 pub mod Fits
 pub mod Reading
+pub mod Refusing
 pub mod Values

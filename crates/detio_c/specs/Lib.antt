@@ -4,3 +4,4 @@ pub mod Faults
 pub mod Owned
 pub mod Promise
 pub mod Reads
+pub mod Refused

@@ -1,6 +1,5 @@
 -- What each export promises of the session in its handle.
 use Rattle.std.specs.Prelude.{◌≡◌, ◌≤◌, ℕ, zero, suc, Bool, true, false, List}
-use Rattle.std.specs.Prelude.{if◌then◌else◌}
 use Rattle.std.specs.Prelude.{Option, Some, None, IfSome, IsSomeAnd}
 use Rattle.lock_model.specs.Machine.{Event}
 use Rattle.lock_model.specs.Machine.Event.{Advances, Attempts}
@@ -9,7 +8,7 @@ use Rattle.lock_machine.specs.Views.{clocks_of}
 use Rattle.lock_machine.specs.declared.thread.Outing.{Outing}
 use Rattle.logical_clocks.specs.TurnOrder.{turn_holder}
 use Rattle.machine.specs.Doors.{taken_along, without}
-use Rattle.machine.specs.Events.{IsRecorded}
+use Rattle.machine.specs.Events.{FailsAtSink, IsRecorded}
 use Rattle.machine.specs.Faithful.{IsFaithful}
 use Rattle.machine.specs.Runs.{Coming, Grows}
 use Rattle.machine.specs.Runs.Coming.{Asks, Nothing}
@@ -62,6 +61,13 @@ BringsOutcome (Some o) words i (Some old) (Some new) =
     (opened_of outing.errand.kind o words) old new
 BringsOutcome o words i old new = ⊥
 
+-- the log's writer failed inside the record of this outcome of thread i, and for this the run is
+-- stopped
+abbrev pub FillsLog : Option Outcome → ℕ → Option (Shown ℕ) → Option (Shown ℕ) → Type 0
+FillsLog (Some o) i (Some old) (Some new) =
+    (outing : Outing) × FailsAtSink ℕ i outing o old new
+FillsLog o i old new = ⊥
+
 -- ## In a session
 
 -- nothing but the machine of the session has changed
@@ -90,14 +96,20 @@ HasCome words bytes i (Some old) (Some new) =
     KeepsRest old new × BringsOutcome (outcome_of words bytes) words i old.machine new.machine
 HasCome words bytes i old new = ⊥
 
+-- the log's writer failed inside the record of the outcome that C says, and nothing else of the
+-- session has changed
+abbrev pub HasFilled : OutcomeWords → List ℕ → ℕ → Option Session → Option Session → Type 0
+HasFilled words bytes i (Some old) (Some new) =
+    KeepsRest old new × FillsLog (outcome_of words bytes) i old.machine new.machine
+HasFilled words bytes i old new = ⊥
+
 -- ## Attempts
 
 -- whoever has the turn made an attempt, and nothing else happened
 abbrev pub HasAttempted : Shown ℕ → Shown ℕ → Type 0
 HasAttempted old new =
     IsSomeAnd (turn_holder (clocks_of old.whole.threads))
-    (λ i. Grows Nothing (Attempts i) old.whole new.whole)
-    × (new ≡ record old { whole = new.whole })
+    (λ i. GrowsBy Nothing (Attempts i) (Some old) (Some new))
 
 -- an attempt was made, or nothing happened
 abbrev pub MayHaveAttempted : Bool → Shown ℕ → Shown ℕ → Type 0
@@ -109,10 +121,6 @@ abbrev pub AttemptsLead : ℕ → Shown ℕ → Shown ℕ → Type 0
 AttemptsLead zero old new = new ≡ old
 AttemptsLead (suc n) old new =
     (between : Shown ℕ) × AttemptsLead n old between × HasAttempted between new
-
--- how many attempts were made at least, where there may be more
-abbrev pub least_of : Bool → ℕ
-least_of more = if more then 1 else 0
 
 -- this many attempts, or more, lead from one machine to the other
 abbrev pub LeadsBy : ℕ → Shown ℕ → Shown ℕ → Type 0

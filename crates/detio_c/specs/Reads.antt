@@ -1,6 +1,6 @@
 -- What C reads of the session in its handle, where a call of the library was done.
-use Rattle.std.specs.Prelude.{◌≡◌, ℕ, ◌≤◌, ◌<◌, ◌-◌, Bool, true, false, List, length, map, take}
-use Rattle.std.specs.Prelude.{drop, min}
+use Rattle.std.specs.Prelude.{◌≡◌, ℕ, ◌≤◌, ◌<◌, ◌-◌, ◌&&◌, Bool, true, false, List, length, map}
+use Rattle.std.specs.Prelude.{take, drop, min}
 use Rattle.std.specs.Prelude.{get_or, slice_get, Option, Some, None, IfSome, IsSomeAnd, MatchOption}
 use Rattle.c_words.specs.Requests.{outside_words, text_of}
 use Rattle.c_words.specs.Words.{bytes_in, bytes_that_came, outcome_words, reply_words}
@@ -19,16 +19,17 @@ use Rattle.logical_clocks.specs.TurnOrder.{has_turn, turn_holder}
 use Rattle.machine.specs.Doors.{door_at, taken_along}
 use Rattle.machine.specs.Events.{Tells}
 use Rattle.machine.specs.Finishing.{Finishes, have_ended}
-use Rattle.machine.specs.Requests.{IsRequest, out_of}
+use Rattle.machine.specs.Requests.{IsOutsideTurn, IsRequest, out_of}
 use Rattle.machine.specs.Shown.{Shown}
 use Rattle.machine.specs.declared.stop.Stop.{Stop}
 use Rattle.machine.specs.declared.stop.Stop.TheVariants as stop
-use Rattle.posix_terms.specs.Outcomes.{suits}
+use Rattle.posix_terms.specs.Outcomes.{is_at, suits}
 use Rattle.posix_terms.specs.declared.outcome.Given.{Given}
 use Rattle.posix_terms.specs.declared.outcome.Outcome.{Outcome}
 use Rattle.posix_terms.specs.declared.reply.Answer.TheVariants as answer
 use Rattle.posix_terms.specs.declared.reply.Reply.{Reply}
 use Rattle.posix_terms.specs.declared.request.Request.{Request}
+use Rattle.posix_terms.specs.declared.transcript.Turn.{Turn}
 use Rattle.sequential_object.specs.declared.turn_end.TurnEnd.{TurnEnd}
 use Rattle.sequential_object.specs.declared.turn_end.TurnEnd.TheVariants as end
 use Rattle.detio_c.specs.Ends.{run_end, stop_of}
@@ -147,10 +148,15 @@ came_for s i = get_or (counts_of s) i 0
 abbrev pub next_logged : Session → ℕ → Option Given
 next_logged s i = next_of (slice_get s.logged.items i) (came_for s i)
 
+-- it answers what a call that was granted at this turn asks outside
+abbrev pub answers_at : Outing → Turn → Given → Bool
+answers_at o turn g = suits o.errand.kind o.errand.asked g && is_at turn g.clock
+
 -- it answers what thread i asks outside, and C reads it, with its bytes at the front of the buffer
 abbrev pub ReadsNext : ℕ → OutcomeWords → List ℕ → Session → Type 0
 ReadsNext i words buffer s = IsSomeAnd s.machine (λ m. IsSomeAnd (out_of (phase_at m.whole i))
-    (λ o. IsSomeAnd (next_logged s i) (λ g. (suits o.errand.kind o.errand.asked g ≡ true)
+    (λ o. IsSomeAnd (next_logged s i) (λ g.
+    ((turn : Turn) × IsOutsideTurn m.whole i (Some turn) × (answers_at o turn g ≡ true))
     × (words ≡ outcome_words g.outcome)
     × (take (length (bytes_that_came g.outcome)) buffer ≡ bytes_that_came g.outcome))))
 

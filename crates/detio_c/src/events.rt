@@ -1,13 +1,18 @@
-ghost use Rattle.std.specs.Prelude.{◌≡◌, ◌⊎◌, MatchResult, None, OnErr, OnOk, length};
+ghost use Rattle.std.specs.Prelude.{◌≡◌, ◌⊎◌, IfErr, MatchResult, OnErr, OnOk, length};
+ghost use Rattle.lock_machine.specs.Refusals.{goes_outside, is_blocked, works};
 ghost use Rattle.lock_model.specs.Machine.Event.{Advances};
 ghost use Rattle.machine.specs.Runs.Coming.{Asks, Nothing};
 ghost use Rattle.posix_terms.specs.declared.step.Step.TheVariants as step;
 ghost use Rattle.c_words.specs.Calls.{call_of};
 ghost use Rattle.c_words.specs.Faults.{code_of};
-ghost use Rattle.detio_c.specs.Promise.{AsksCall, HasAsked, HasCome, HasGone, HasGrown};
+ghost use Rattle.c_words.specs.Words.{outcome_of};
+ghost use Rattle.detio_c.specs.Promise.{AsksCall, HasAsked, HasCome, HasFilled, HasGone, HasGrown};
 ghost use Rattle.detio_c.specs.Promise.{HasSettled, IsFaithfulIn, IsRefusal, KeepsRest};
 ghost use Rattle.detio_c.specs.Reads.{HasTurn, InBoth, InMachine, IsAtPhase, MakesAgain, ReadsDoor};
 ghost use Rattle.detio_c.specs.Reads.{ReadsReply, ReadsRequest, Rests, door_along};
+ghost use Rattle.detio_c.specs.Refused.{IsForSession, NothingElse, OfThread, RefusesAnswer};
+ghost use Rattle.detio_c.specs.Refused.{RefusesAsking, RefusesCall, RefusesEvent, RefusesMaking};
+ghost use Rattle.detio_c.specs.Refused.{RefusesOutcome, RefusesRequest, RefusesSettling};
 
 use crate::handle::Handle;
 use crate::place::{put, taken};
@@ -46,6 +51,8 @@ fn ask_call(
     ensures refused { OnErr result (session.new ≡ session.old) }
     ensures grown { OnOk result (AsksCall (call_of call.now text.now second.now) thread
         session.old.machine session.new.machine) }
+    ensures why { IfErr result (λ f. RefusesCall (call_of call.now text.now second.now) thread f
+        session.old) }
 {
     session.ask(thread, Step::Call(call_of(alloc, call, text, second)?))
 }
@@ -64,7 +71,8 @@ pub extern "C" fn detio_ask(
     ensures grown { result ≡ 0
         → HasAsked call.now text.now second.now thread h.old.value h.new.value }
     ensures refused { IsRefusal 0 result → h.new.value ≡ h.old.value }
-    ensures freed { h.old.value ≡ None → result ≡ 3 }
+    ensures why { IsRefusal 0 result → IsForSession
+        (RefusesCall (call_of call.now text.now second.now) thread) result h.old.value }
 {
     let Some(session) = taken(alloc, h) else {
         return LibraryFault::NoSession.code();
@@ -82,7 +90,8 @@ pub extern "C" fn detio_work(alloc: Global, h: &mut Handle, thread: usize, units
     ensures grown { result ≡ 0
         → HasGrown (Asks (step.Work units)) (Advances thread) h.old.value h.new.value }
     ensures refused { IsRefusal 0 result → h.new.value ≡ h.old.value }
-    ensures freed { h.old.value ≡ None → result ≡ 3 }
+    ensures why { IsRefusal 0 result
+        → IsForSession (RefusesAsking (step.Work units) thread) result h.old.value }
 {
     let Some(session) = taken(alloc, h) else {
         return LibraryFault::NoSession.code();
@@ -100,7 +109,8 @@ pub extern "C" fn detio_end(alloc: Global, h: &mut Handle, thread: usize) -> u32
     ensures grown { result ≡ 0
         → HasGrown (Asks step.End) (Advances thread) h.old.value h.new.value }
     ensures refused { IsRefusal 0 result → h.new.value ≡ h.old.value }
-    ensures freed { h.old.value ≡ None → result ≡ 3 }
+    ensures why { IsRefusal 0 result → IsForSession (OfThread thread
+        (RefusesEvent works (Asks step.End) thread)) result h.old.value }
 {
     let Some(session) = taken(alloc, h) else {
         return LibraryFault::NoSession.code();
@@ -118,7 +128,8 @@ pub extern "C" fn detio_again(alloc: Global, h: &mut Handle, thread: usize) -> u
     ensures grown { result ≡ 0
         → HasGrown Nothing (Advances thread) h.old.value h.new.value }
     ensures refused { IsRefusal 0 result → h.new.value ≡ h.old.value }
-    ensures freed { h.old.value ≡ None → result ≡ 3 }
+    ensures why { IsRefusal 0 result → IsForSession (OfThread thread
+        (RefusesMaking is_blocked Nothing thread)) result h.old.value }
 {
     let Some(session) = taken(alloc, h) else {
         return LibraryFault::NoSession.code();
@@ -138,7 +149,7 @@ pub extern "C" fn detio_settle(alloc: Global, h: &mut Handle) -> u32
     ensures attempts { (result ≡ 0) ⊎ (result ≡ 1)
         → InBoth h.old.value h.new.value (HasSettled result) }
     ensures refused { IsRefusal 1 result → h.new.value ≡ h.old.value }
-    ensures freed { h.old.value ≡ None → result ≡ 3 }
+    ensures why { IsRefusal 1 result → IsForSession RefusesSettling result h.old.value }
 {
     let Some(session) = taken(alloc, h) else {
         return LibraryFault::NoSession.code();
@@ -159,7 +170,8 @@ pub extern "C" fn detio_phase(alloc: Global, h: &mut Handle, thread: usize, phas
     ensures faithful { IsFaithfulIn h.new.value }
     ensures phase { result ≡ 0 → InMachine h.old.value (IsAtPhase thread phase.new) }
     ensures unchanged { h.new.value ≡ h.old.value }
-    ensures freed { h.old.value ≡ None → result ≡ 3 }
+    ensures why { IsRefusal 0 result
+        → IsForSession (OfThread thread NothingElse) result h.old.value }
 {
     let Some(session) = taken(alloc, h) else {
         return LibraryFault::NoSession.code();
@@ -187,7 +199,8 @@ pub extern "C" fn detio_has_turn(
     ensures faithful { IsFaithfulIn h.new.value }
     ensures turn { result ≡ 0 → InMachine h.old.value (HasTurn thread has.new) }
     ensures unchanged { h.new.value ≡ h.old.value }
-    ensures freed { h.old.value ≡ None → result ≡ 3 }
+    ensures why { IsRefusal 0 result
+        → IsForSession (OfThread thread NothingElse) result h.old.value }
 {
     let Some(session) = taken(alloc, h) else {
         return LibraryFault::NoSession.code();
@@ -220,7 +233,8 @@ pub extern "C" fn detio_answer(
         → InMachine h.old.value (ReadsReply thread reply.new (length buffer.old) buffer.new) }
     ensures again { result ≡ 2 → InMachine h.old.value (MakesAgain thread) }
     ensures refused { IsRefusal 2 result → h.new.value ≡ h.old.value }
-    ensures freed { h.old.value ≡ None → result ≡ 3 }
+    ensures why { IsRefusal 2 result → IsForSession (OfThread thread
+        (RefusesAnswer thread (length buffer.old))) result h.old.value }
 {
     let Some(session) = taken(alloc, h) else {
         return LibraryFault::NoSession.code();
@@ -251,7 +265,8 @@ pub extern "C" fn detio_request(
     ensures request { result ≡ 0
         → InMachine h.old.value (ReadsRequest thread outside.new buffer.new) }
     ensures unchanged { h.new.value ≡ h.old.value }
-    ensures freed { h.old.value ≡ None → result ≡ 3 }
+    ensures why { IsRefusal 0 result → IsForSession (OfThread thread
+        (RefusesRequest thread (length buffer.old))) result h.old.value }
 {
     let Some(session) = taken(alloc, h) else {
         return LibraryFault::NoSession.code();
@@ -282,7 +297,8 @@ pub extern "C" fn detio_begin_outside(
     ensures door { result ≡ 0
         → InMachine h.old.value (λ m. ReadsDoor goes.new door.new (door_along thread m)) }
     ensures refused { IsRefusal 0 result → h.new.value ≡ h.old.value }
-    ensures freed { h.old.value ≡ None → result ≡ 3 }
+    ensures why { IsRefusal 0 result → IsForSession (OfThread thread
+        (RefusesEvent goes_outside Nothing thread)) result h.old.value }
 {
     let Some(session) = taken(alloc, h) else {
         return LibraryFault::NoSession.code();
@@ -316,7 +332,9 @@ pub extern "C" fn detio_record(
     ensures faithful { IsFaithfulIn h.new.value }
     ensures grown { result ≡ 0 → HasCome outcome.now bytes.now thread h.old.value h.new.value }
     ensures refused { IsRefusal 9 result → h.new.value ≡ h.old.value }
-    ensures freed { h.old.value ≡ None → result ≡ 3 }
+    ensures full { result ≡ 9 → HasFilled outcome.now bytes.now thread h.old.value h.new.value }
+    ensures why { IsRefusal 9 result → IsForSession (OfThread thread
+        (RefusesOutcome (outcome_of outcome.now bytes.now) thread)) result h.old.value }
 {
     let Some(session) = taken(alloc, h) else {
         return LibraryFault::NoSession.code();

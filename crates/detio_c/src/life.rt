@@ -1,8 +1,11 @@
-ghost use Rattle.std.specs.Prelude.{◌≡◌, IsSomeAnd, MatchResult, None, Some, length};
+ghost use Rattle.std.specs.Prelude.{◌≡◌, IsSomeAnd, MatchResult, Some, length};
+ghost use Rattle.c_words.specs.declared.fault.LibraryFault.TheVariants as fault;
 ghost use Rattle.detio_c.specs.Begun.{Begins, BeginsReplay, settings_said};
 ghost use Rattle.detio_c.specs.Promise.{IsFaithfulIn, IsRefusal};
 ghost use Rattle.detio_c.specs.Reads.{HasFinished, HasStopped, InBoth, ReadsLogOf, ReadsNext};
 ghost use Rattle.detio_c.specs.Reads.{unused_of};
+ghost use Rattle.detio_c.specs.Refused.{IsFor, IsForSession, RefusesCount, RefusesEnd, RefusesLog};
+ghost use Rattle.detio_c.specs.Refused.{RefusesNext, RefusesReplay, RefusesRun, RefusesStop};
 
 use crate::handle::Handle;
 use crate::place::{put, taken};
@@ -19,6 +22,8 @@ fn begin(alloc: Global, h: &mut Handle, made: Result<Session, LibraryFault>) -> 
     ensures begun { result ≡ 0
         → MatchResult made (λ session. h.new.value ≡ Some session) (λ _. ⊥) }
     ensures refused { (result ≡ 0 → ⊥) → h.new.value ≡ h.old.value }
+    ensures why { (result ≡ 0 → ⊥) → IsFor
+        (λ f. MatchResult made (λ _. f ≡ fault.NoMemory) (λ e. f ≡ e)) result }
 {
     match made {
         Ok(session) => match Box::new(alloc, session) {
@@ -39,6 +44,8 @@ pub extern "C" fn detio_new(alloc: Global, h: &mut Handle, settings: &RunWords) 
     ensures begun { result ≡ 0 → IsSomeAnd h.new.value
         (Begins (settings_said settings.now) settings.now.threads) }
     ensures refused { (result ≡ 0 → ⊥) → h.new.value ≡ h.old.value }
+    ensures why { (result ≡ 0 → ⊥)
+        → IsFor (RefusesRun (settings_said settings.now) settings.now.threads) result }
 {
     begin(alloc, h, Session::new(alloc, settings))
 }
@@ -49,6 +56,7 @@ pub extern "C" fn detio_open_log(alloc: Global, h: &mut Handle, log: &[u8]) -> u
     ensures faithful { result ≡ 0 → IsFaithfulIn h.new.value }
     ensures begun { result ≡ 0 → IsSomeAnd h.new.value (BeginsReplay log.now) }
     ensures refused { (result ≡ 0 → ⊥) → h.new.value ≡ h.old.value }
+    ensures why { (result ≡ 0 → ⊥) → IsFor (RefusesReplay log.now) result }
 {
     begin(alloc, h, Session::replay(alloc, log))
 }
@@ -73,7 +81,8 @@ pub extern "C" fn detio_next(
     ensures faithful { IsFaithfulIn h.new.value }
     ensures next { result ≡ 0 → IsSomeAnd h.old.value (ReadsNext thread outcome.new buffer.new) }
     ensures unchanged { h.new.value ≡ h.old.value }
-    ensures freed { h.old.value ≡ None → result ≡ 3 }
+    ensures why { IsRefusal 0 result → IsForSession (RefusesNext thread (length buffer.old))
+        result h.old.value }
 {
     let Some(session) = taken(alloc, h) else {
         return LibraryFault::NoSession.code();
@@ -96,7 +105,7 @@ pub extern "C" fn detio_unused(alloc: Global, h: &mut Handle, thread: usize, cou
     ensures faithful { IsFaithfulIn h.new.value }
     ensures count { result ≡ 0 → IsSomeAnd h.old.value (λ s. count.new ≡ unused_of s thread) }
     ensures unchanged { h.new.value ≡ h.old.value }
-    ensures freed { h.old.value ≡ None → result ≡ 3 }
+    ensures why { IsRefusal 0 result → IsForSession (RefusesCount thread) result h.old.value }
 {
     let Some(session) = taken(alloc, h) else {
         return LibraryFault::NoSession.code();
@@ -119,7 +128,8 @@ pub extern "C" fn detio_stop(alloc: Global, h: &mut Handle, cause: u32, thread: 
     ensures faithful { IsFaithfulIn h.new.value }
     ensures done { result ≡ 0 → InBoth h.old.value h.new.value (HasStopped cause thread) }
     ensures refused { IsRefusal 0 result → h.new.value ≡ h.old.value }
-    ensures freed { h.old.value ≡ None → result ≡ 3 }
+    ensures why { IsRefusal 0 result
+        → IsForSession (RefusesStop cause thread) result h.old.value }
 {
     let Some(session) = taken(alloc, h) else {
         return LibraryFault::NoSession.code();
@@ -139,7 +149,7 @@ pub extern "C" fn detio_finish(alloc: Global, h: &mut Handle, ended: &mut RunEnd
     ensures faithful { IsFaithfulIn h.new.value }
     ensures done { result ≡ 0 → InBoth h.old.value h.new.value (HasFinished ended.new) }
     ensures refused { IsRefusal 0 result → h.new.value ≡ h.old.value }
-    ensures freed { h.old.value ≡ None → result ≡ 3 }
+    ensures why { IsRefusal 0 result → IsForSession RefusesEnd result h.old.value }
 {
     let Some(session) = taken(alloc, h) else {
         return LibraryFault::NoSession.code();
@@ -169,7 +179,7 @@ pub extern "C" fn detio_log(
     ensures log { result ≡ 0
         → IsSomeAnd h.old.value (ReadsLogOf from whole.new (length buffer.old) buffer.new) }
     ensures unchanged { h.new.value ≡ h.old.value }
-    ensures freed { h.old.value ≡ None → result ≡ 3 }
+    ensures why { IsRefusal 0 result → IsForSession RefusesLog result h.old.value }
 {
     let Some(session) = taken(alloc, h) else {
         return LibraryFault::NoSession.code();

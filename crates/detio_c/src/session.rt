@@ -1,20 +1,26 @@
 ghost use Rattle.std.specs.Prelude.{◌≡◌, ◌<◌, ℕ, IfErr, IfOk, IfSome, IsSomeAnd, OnErr, OnOk};
-ghost use Rattle.std.specs.Prelude.{false, get_or, length, option_copied, slice_get};
+ghost use Rattle.std.specs.Prelude.{if◌then◌else◌, false, get_or, length, option_copied, slice_get};
 ghost use Rattle.c_words.specs.Words.{outcome_of};
 ghost use Rattle.c_words.specs.declared.fault.LibraryFault.TheVariants as fault;
-ghost use Rattle.lock_machine.specs.Refusals.{phase_at};
+ghost use Rattle.lock_machine.specs.Refusals.{goes_outside, has_answer, is_blocked, phase_at};
+ghost use Rattle.lock_machine.specs.Refusals.{works};
 ghost use Rattle.lock_model.specs.Machine.Event.{Advances};
 ghost use Rattle.machine.specs.Faithful.{IsFaithful};
 ghost use Rattle.machine.specs.Requests.{out_of};
 ghost use Rattle.machine.specs.Runs.Coming.{Asks, Nothing};
 ghost use Rattle.posix_terms.specs.declared.step.Step.TheVariants as step;
 ghost use Rattle.detio_c.specs.Begun.{Begins, BeginsReplay, outcomes_by, settings_said};
-ghost use Rattle.detio_c.specs.Promise.{BringsOutcome, GoesOut, GrowsBy, HasSettled, KeepsRest};
-ghost use Rattle.detio_c.specs.Promise.{LeadsBy, MayHaveAttempted, least_of};
+ghost use Rattle.detio_c.specs.Promise.{BringsOutcome, FillsLog, GoesOut, GrowsBy, HasSettled};
+ghost use Rattle.detio_c.specs.Promise.{KeepsRest, LeadsBy, MayHaveAttempted};
 ghost use Rattle.detio_c.specs.Reads.{HasFinished, HasStopped, HasTurn, IsAtPhase, ReadsAnswer};
 ghost use Rattle.detio_c.specs.Reads.{ReadsLogOf, ReadsNext, ReadsRequest, Rests, came_for};
 ghost use Rattle.detio_c.specs.Reads.{counts_in, counts_of, door_along, next_logged, phase_code};
 ghost use Rattle.detio_c.specs.Reads.{Brings, bytes_at_end, bytes_came, unused_of, waits_in};
+ghost use Rattle.detio_c.specs.Refused.{NothingElse, OfThread, RefusesAnswer, RefusesAsking};
+ghost use Rattle.detio_c.specs.Refused.{RefusesAttempt, RefusesCount, RefusesEnd, RefusesEvent};
+ghost use Rattle.detio_c.specs.Refused.{RefusesLog, RefusesMaking, RefusesNext, RefusesOutcome};
+ghost use Rattle.detio_c.specs.Refused.{RefusesReplay, RefusesRequest, RefusesRun, RefusesSettling};
+ghost use Rattle.detio_c.specs.Refused.{RefusesStop, bytes_due};
 
 use crate::ends::{doors_of, run_end};
 use crate::fault::fault_of;
@@ -23,7 +29,7 @@ use c_words::{
     outcome_words, outside_words, put_front, reply_words, text_of,
 };
 use call_turns::TurnEnd;
-use input_log::{Header, LogWriter, MemorySink, Record, decode_front, outcomes_of};
+use input_log::{Header, LogFault, LogWriter, MemorySink, Record, decode_front, outcomes_of};
 use machine::{Finished, Machine, Phase, Stop, are_in_range};
 use posix_terms::{Answer, Given, Limits, Outcome, Outcomes, PackedRow, Reply, Settings, Step};
 use std::alloc::{AllocError, Global};
@@ -47,8 +53,10 @@ const ATTEMPTS: u32 = 4096;
 
 impl Session {
     /// A run of so many threads, whose log has so much room.
+    #[tactic(auto, unfolding(input_log::specs::Grammar::in_range))]
     pub fn new(alloc: Global, words: &RunWords) -> Result<Session, LibraryFault>
-        ensures { IfOk result (Begins (settings_said words.now) words.now.threads) }
+        ensures begun { IfOk result (Begins (settings_said words.now) words.now.threads) }
+        ensures why { IfErr result (RefusesRun (settings_said words.now) words.now.threads) }
     {
         let version = match words.version {
             1 => 1,
@@ -70,7 +78,8 @@ impl Session {
         settings: Settings,
         room: usize,
     ) -> Result<Session, LibraryFault>
-        ensures { IfOk result (Begins settings threads) }
+        ensures begun { IfOk result (Begins settings threads) }
+        ensures why { IfErr result (RefusesRun settings threads) }
     {
         if threads < 1 || threads > Limits::THREADS || !are_in_range(settings) {
             return Err(LibraryFault::BadSettings);
@@ -93,10 +102,13 @@ impl Session {
     /// A replay of this log, under its header: as many threads, and room for the same log. A log that is torn is
     /// replayed up to the tear.
     pub fn replay(alloc: Global, log: &[u8]) -> Result<Session, LibraryFault>
-        ensures { IfOk result (BeginsReplay log.now) }
+        ensures begun { IfOk result (BeginsReplay log.now) }
+        ensures why { IfErr result (RefusesReplay log.now) }
     {
-        let Ok(text) = decode_front(alloc, log) else {
-            return Err(LibraryFault::NotALog);
+        let text = match decode_front(alloc, log) {
+            Ok(text) => text,
+            Err(LogFault::Memory) => return Err(LibraryFault::NoMemory),
+            Err(_) => return Err(LibraryFault::NotALog),
         };
         let threads = usize::from(text.header.threads);
         // A torn log has no end, which takes five bytes.
@@ -114,6 +126,7 @@ impl Session {
         ensures grown { OnOk result
             (GrowsBy (Asks asked) (Advances i) self.old.machine self.new.machine) }
         ensures refused { OnErr result (self.new ≡ self.old) }
+        ensures why { IfErr result (λ f. RefusesAsking asked i f self.old) }
     {
         let Some(machine) = &mut self.machine else {
             return Err(LibraryFault::Over);
@@ -130,6 +143,8 @@ impl Session {
         ensures grown { OnOk result
             (GrowsBy (Asks step.End) (Advances i) self.old.machine self.new.machine) }
         ensures refused { OnErr result (self.new ≡ self.old) }
+        ensures why { IfErr result (λ f. OfThread i
+            (RefusesEvent works (Asks step.End) i) f self.old) }
     {
         let Some(machine) = &mut self.machine else {
             return Err(LibraryFault::Over);
@@ -146,6 +161,8 @@ impl Session {
         ensures grown { OnOk result
             (GrowsBy Nothing (Advances i) self.old.machine self.new.machine) }
         ensures refused { OnErr result (self.new ≡ self.old) }
+        ensures why { IfErr result (λ f. OfThread i
+            (RefusesMaking is_blocked Nothing i) f self.old) }
     {
         let Some(machine) = &mut self.machine else {
             return Err(LibraryFault::Over);
@@ -161,8 +178,10 @@ impl Session {
     /// then the next call makes none and is refused.
     pub fn settle(&mut self) -> Result<bool, LibraryFault>
         ensures rests { IfOk result (λ more. more ≡ false → IsSomeAnd self.new.machine Rests) }
-        ensures attempts { IfOk result (λ more. HasSettled (least_of more) self.old self.new) }
+        ensures attempts { IfOk result
+            (λ more. HasSettled (if more then 1 else 0) self.old self.new) }
         ensures refused { OnErr result (self.new ≡ self.old) }
+        ensures why { IfErr result (λ f. RefusesSettling f self.old) }
     {
         let Some(machine) = &mut self.machine else {
             return Err(LibraryFault::Over);
@@ -175,7 +194,8 @@ impl Session {
 
     /// Where thread i is, as C knows it.
     pub fn phase(&self, i: usize) -> Result<u32, LibraryFault>
-        ensures { IfOk result (λ n. IsSomeAnd self.now.machine (IsAtPhase i n)) }
+        ensures phase { IfOk result (λ n. IsSomeAnd self.now.machine (IsAtPhase i n)) }
+        ensures why { IfErr result (λ f. OfThread i NothingElse f self.now) }
     {
         let Some(machine) = &self.machine else {
             return Err(LibraryFault::Over);
@@ -188,7 +208,8 @@ impl Session {
 
     /// Whether thread i has the turn.
     pub fn has_turn(&self, i: usize) -> Result<bool, LibraryFault>
-        ensures { IfOk result (λ has. IsSomeAnd self.now.machine (HasTurn i has)) }
+        ensures turn { IfOk result (λ has. IsSomeAnd self.now.machine (HasTurn i has)) }
+        ensures why { IfErr result (λ f. OfThread i NothingElse f self.now) }
     {
         let Some(machine) = &self.machine else {
             return Err(LibraryFault::Over);
@@ -212,6 +233,8 @@ impl Session {
         ensures words { IfOk result (λ words. IsSomeAnd self.old.machine
             (ReadsAnswer i words (length buffer.old) buffer.new)) }
         ensures refused { OnErr result (self.new ≡ self.old) }
+        ensures why { IfErr result (λ f. OfThread i
+            (RefusesAnswer i (length buffer.old)) f self.old) }
     {
         let Some(machine) = &mut self.machine else {
             return Err(LibraryFault::Over);
@@ -237,8 +260,10 @@ impl Session {
 
     /// What thread i asks outside, if it is about to go there or is there, with the path or the bytes of its call.
     pub fn request(&self, i: usize, buffer: &mut [u8]) -> Result<OutsideWords, LibraryFault>
-        ensures { IfOk result (λ words. IsSomeAnd self.now.machine
+        ensures request { IfOk result (λ words. IsSomeAnd self.now.machine
             (ReadsRequest i words buffer.new)) }
+        ensures why { IfErr result (λ f. OfThread i
+            (RefusesRequest i (length buffer.old)) f self.now) }
     {
         let Some(machine) = &self.machine else {
             return Err(LibraryFault::Over);
@@ -262,6 +287,8 @@ impl Session {
         ensures door { IfOk result (λ door. IsSomeAnd self.old.machine
             (λ m. door ≡ door_along i m)) }
         ensures refused { OnErr result (self.new ≡ self.old) }
+        ensures why { IfErr result (λ f. OfThread i
+            (RefusesEvent goes_outside Nothing i) f self.old) }
     {
         let Some(machine) = &mut self.machine else {
             return Err(LibraryFault::Over);
@@ -284,6 +311,10 @@ impl Session {
         ensures grown { OnOk result (BringsOutcome (outcome_of words.now bytes.now) words.now i
             self.old.machine self.new.machine) }
         ensures refused { IfErr result (λ f. (f ≡ fault.LogFull → ⊥) → self.new ≡ self.old) }
+        ensures why { IfErr result (λ f. (f ≡ fault.LogFull → ⊥)
+            → OfThread i (RefusesOutcome (outcome_of words.now bytes.now) i) f self.old) }
+        ensures full { IfErr result (λ f. f ≡ fault.LogFull
+            → FillsLog (outcome_of words.now bytes.now) i self.old.machine self.new.machine) }
     {
         let Some(machine) = &mut self.machine else {
             return Err(LibraryFault::Over);
@@ -307,7 +338,8 @@ impl Session {
 
     /// Of a replay, what its log has next for thread i, which is about to go outside or is there.
     pub fn next(&self, i: usize, buffer: &mut [u8]) -> Result<OutcomeWords, LibraryFault>
-        ensures { IfOk result (λ words. ReadsNext i words buffer.new self.now) }
+        ensures next { IfOk result (λ words. ReadsNext i words buffer.new self.now) }
+        ensures why { IfErr result (λ f. RefusesNext i (length buffer.old) f self.now) }
     {
         let Some(machine) = &self.machine else {
             return Err(LibraryFault::Over);
@@ -367,7 +399,8 @@ impl Session {
 
     /// Of a replay, how many records of thread i did not come.
     pub fn unused(&self, i: usize) -> Result<u64, LibraryFault>
-        ensures { IfOk result (λ n. n ≡ unused_of self.now i) }
+        ensures count { IfOk result (λ n. n ≡ unused_of self.now i) }
+        ensures why { IfErr result (λ f. RefusesCount i f self.now) }
     {
         if i >= self.len() {
             return Err(LibraryFault::NoThread);
@@ -383,6 +416,7 @@ impl Session {
     pub fn stop(&mut self, cause: u32, i: usize) -> Result<(), LibraryFault>
         ensures done { OnOk result (HasStopped cause i self.old self.new) }
         ensures refused { OnErr result (self.new ≡ self.old) }
+        ensures why { IfErr result (λ f. RefusesStop cause i f self.old) }
     {
         let count = self.came_for(i);
         let Some(machine) = &mut self.machine else {
@@ -405,6 +439,7 @@ impl Session {
     pub fn finish(&mut self, alloc: Global) -> Result<RunEnd, LibraryFault>
         ensures done { IfOk result (λ words. HasFinished words self.old self.new) }
         ensures refused { OnErr result (self.new ≡ self.old) }
+        ensures why { IfErr result (λ f. RefusesEnd f self.old) }
     {
         let came = match &self.machine {
             Some(machine) => counts_in(alloc, machine)?,
@@ -424,7 +459,8 @@ impl Session {
     /// Bytes of the log, which a run that goes on has so far, from this place on, as many as have room in `buffer`: how
     /// long the log is.
     pub fn log(&self, from: usize, buffer: &mut [u8]) -> Result<usize, LibraryFault>
-        ensures { IfOk result (λ n. ReadsLogOf from n (length buffer.old) buffer.new self.now) }
+        ensures log { IfOk result (λ n. ReadsLogOf from n (length buffer.old) buffer.new self.now) }
+        ensures why { IfErr result (λ f. RefusesLog f self.now) }
     {
         let bytes = match (&self.machine, &self.left) {
             (Some(machine), _) => machine.sink().bytes(),
@@ -488,8 +524,10 @@ fn counts_in(alloc: Global, machine: &Machine<MemorySink, u64>) -> Result<Vec<u3
 // this.
 fn attempts(machine: &mut Machine<MemorySink, u64>) -> Result<bool, LibraryFault>
     ensures rests { IfOk result (λ more. more ≡ false → Rests machine.new) }
-    ensures attempts { IfOk result (λ more. LeadsBy (least_of more) machine.old machine.new) }
+    ensures attempts { IfOk result
+        (λ more. LeadsBy (if more then 1 else 0) machine.old machine.new) }
     ensures refused { OnErr result (machine.new ≡ machine.old) }
+    ensures why { IfErr result (λ f. RefusesAttempt f machine.old) }
 {
     if !attempt(machine)? {
         return Ok(false);
@@ -509,6 +547,7 @@ fn attempt(machine: &mut Machine<MemorySink, u64>) -> Result<bool, LibraryFault>
     ensures rests { IfOk result (λ made. made ≡ false → Rests machine.new) }
     ensures attempt { IfOk result (λ made. MayHaveAttempted made machine.old machine.new) }
     ensures refused { OnErr result (machine.new ≡ machine.old) }
+    ensures why { IfErr result (λ f. RefusesAttempt f machine.old) }
 {
     let Some(i) = machine.turn_holder() else {
         return Ok(false);
@@ -553,7 +592,10 @@ fn waits_at(phase: &Phase) -> bool
 // How many bytes the reply of thread i will have at most, if its call is about to be answered.
 fn bytes_to_come(machine: &Machine<MemorySink, u64>, i: usize) -> Option<usize>
     requires { i < length machine.now.whole.threads }
-    ensures { IfSome result (λ most. Brings i most machine.now) }
+    ensures most { IfSome result (λ most. Brings i most machine.now) }
+    ensures due { IfSome result (λ most. most
+        ≡ bytes_due (phase_at machine.now.whole i) machine.now.whole.rows) }
+    ensures none { result ≡ None → has_answer (phase_at machine.now.whole i) ≡ false }
 {
     let rows = machine.history();
     match machine.phase(i) {
