@@ -3,7 +3,8 @@
  * The program holds one lock around each call of this page; detio_threads.h does so. A `detio` is begun with
  * zeroes, stays where it is, and is neither copied nor written. No pointer is NULL, also where its length is 0, and
  * what is written is nothing else that the call is given. Each call but `detio_free` returns a code: what was refused
- * (3 and above) has changed nothing, except that where detio_record returns DETIO_LOG_FULL the run is stopped. */
+ * (3 and above) has changed nothing, except that where detio_record returns DETIO_LOG_FULL the run is stopped, and its
+ * log may end inside a record. */
 #ifndef DETIO_H
 #define DETIO_H
 
