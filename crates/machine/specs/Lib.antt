@@ -15,3 +15,4 @@ pub mod Faithful
 pub mod Finishing
 pub mod Requests
 pub mod Skipping
+pub mod InTurn

@@ -36,6 +36,7 @@ mod doors;
 mod events;
 mod finish;
 mod history;
+mod in_turn;
 mod laws;
 mod machine;
 mod outside;

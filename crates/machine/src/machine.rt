@@ -128,6 +128,14 @@ impl<S: LogSink, D: Drop> Machine<S, D> {
         self.calls.came(i)
     }
 
+    /// The clock of thread i. That of a thread that has ended is the one at which it did.
+    pub fn clock(&self, i: usize) -> u64
+        requires { i < length self.now.whole.threads }
+        ensures { result ≡ (thread_at self.now.whole i).clock }
+    {
+        self.calls.clock(i)
+    }
+
     /// Whether thread i has the turn. An attempt without it is refused. It is the turn of the definition, at the end of
     /// whichever run leads to the machine (`shown`).
     pub fn has_turn(&self, i: usize) -> bool

@@ -2,5 +2,4 @@ pub mod Seats
 pub mod Each
 pub mod Recorded
 pub mod Starting
-pub mod Order
 pub mod Leaving

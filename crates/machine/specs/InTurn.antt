@@ -19,6 +19,6 @@ all_let_go row threads = all_true (map (λ (t : Thread). lets_go row (out_of t.p
 
 -- a thread at this phase is about to go outside, and each call that was granted before its own and
 -- goes outside has its record
-abbrev pub is_next_outside : List Thread → Phase → Bool
-is_next_outside threads (phase.ToOutside o) = all_let_go o.row threads
-is_next_outside threads p = false
+abbrev pub may_go : List Thread → Phase → Bool
+may_go threads (phase.ToOutside o) = all_let_go o.row threads
+may_go threads p = false
