@@ -228,6 +228,13 @@ uint32_t detio_answer(detio *, size_t thread, detio_reply *, uint8_t *data, size
 /* Where a thread is, and whether it has the turn. */
 uint32_t detio_phase(detio *, size_t thread, uint32_t *phase);
 uint32_t detio_has_turn(detio *, size_t thread, bool *has);
+/* That of a thread that has ended is the one at which it did. */
+uint32_t detio_clock(detio *, size_t thread, uint64_t *clock);
+/* Whether some thread has the turn, and which: once all have ended nobody has, and `thread` is left as it was. */
+uint32_t detio_holder(detio *, bool *there, size_t *thread);
+/* Whether a thread is about to go outside, and each call that was granted before its own and goes outside has its
+ * record. A driver that waits for this before detio_begin_outside reaches the outside in the order of turns. */
+uint32_t detio_may_go(detio *, size_t thread, bool *may);
 
 /* The attempts of whoever has the turn. Where one is refused after others were made, DETIO_MORE is returned, and the
  * next call is refused. */

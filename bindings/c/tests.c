@@ -35,6 +35,25 @@ static uint32_t phase(detio *m, size_t t) {
   return found;
 }
 
+static uint64_t clock_of(detio *m, size_t t) {
+  uint64_t found = 0;
+  CHECK(detio_clock(m, t, &found) == DETIO_DONE);
+  return found;
+}
+
+static size_t holder(detio *m) {
+  bool there = false;
+  size_t found = SIZE_MAX;
+  CHECK(detio_holder(m, &there, &found) == DETIO_DONE && there);
+  return found;
+}
+
+static bool may_go(detio *m, size_t t) {
+  bool found = false;
+  CHECK(detio_may_go(m, t, &found) == DETIO_DONE);
+  return found;
+}
+
 static detio_reply answered(detio *m) {
   detio_reply reply;
   CHECK(detio_settle(m) == DETIO_DONE);
@@ -59,6 +78,9 @@ static void has_nothing(detio *m) {
   CHECK(detio_answer(m, 0, &reply, data, sizeof data) == DETIO_NO_SESSION);
   CHECK(detio_phase(m, 0, &found) == DETIO_NO_SESSION);
   CHECK(detio_has_turn(m, 0, &is) == DETIO_NO_SESSION);
+  CHECK(detio_clock(m, 0, &number) == DETIO_NO_SESSION);
+  CHECK(detio_holder(m, &is, &length) == DETIO_NO_SESSION);
+  CHECK(detio_may_go(m, 0, &is) == DETIO_NO_SESSION);
   CHECK(detio_settle(m) == DETIO_NO_SESSION);
   CHECK(detio_request(m, 0, &outside, data, sizeof data) == DETIO_NO_SESSION);
   CHECK(detio_begin_outside(m, 0, &is, &number) == DETIO_NO_SESSION);
@@ -98,6 +120,8 @@ static void threads_that_are_not_there(void) {
     CHECK(detio_answer(&m, t, &reply, data, sizeof data) == DETIO_NO_THREAD);
     CHECK(detio_phase(&m, t, &found) == DETIO_NO_THREAD);
     CHECK(detio_has_turn(&m, t, &is) == DETIO_NO_THREAD);
+    CHECK(detio_clock(&m, t, &number) == DETIO_NO_THREAD);
+    CHECK(detio_may_go(&m, t, &is) == DETIO_NO_THREAD);
     CHECK(detio_request(&m, t, &outside, data, sizeof data) == DETIO_NO_THREAD);
     CHECK(detio_begin_outside(&m, t, &is, &number) == DETIO_NO_THREAD);
     CHECK(detio_record(&m, t, &came, none, 0) == DETIO_NO_THREAD);
@@ -240,6 +264,38 @@ static uint64_t wants_to_read(detio *m, uint64_t left, uint64_t worked) {
   return left;
 }
 
+/* Clocks, and who has the turn: of equal clocks the lesser number, and nobody once all have ended. */
+static void clocks_and_turns(void) {
+  detio m = {0};
+  detio_settings two = one;
+  detio_reply reply;
+  detio_run_end ended;
+  uint64_t clock;
+  size_t thread = 7;
+  bool is = true;
+  two.threads = 2;
+  CHECK(detio_new(&m, &two) == DETIO_DONE);
+  CHECK(clock_of(&m, 0) == 1 && clock_of(&m, 1) == 1 && holder(&m) == 0);
+  CHECK(detio_work(&m, 1, 20) == DETIO_DONE && clock_of(&m, 1) == 21 && holder(&m) == 0);
+  /* A pipe: an attempt at the table, one at the object, and the answer. */
+  CHECK(ask(&m, 0, (detio_call){.kind = DETIO_PIPE}, NULL) == DETIO_DONE && clock_of(&m, 0) == 1);
+  CHECK(detio_settle(&m) == DETIO_DONE && phase(&m, 0) == DETIO_GRANTED && clock_of(&m, 0) == 4);
+  CHECK(detio_answer(&m, 0, &reply, data, sizeof data) == DETIO_DONE && clock_of(&m, 0) == 5);
+  CHECK(detio_work(&m, 0, 16) == DETIO_DONE && clock_of(&m, 0) == 21 && holder(&m) == 0);
+  CHECK(detio_work(&m, 0, 1) == DETIO_DONE && clock_of(&m, 0) == 22 && holder(&m) == 1);
+  CHECK(detio_end(&m, 1) == DETIO_DONE && clock_of(&m, 1) == 21 && holder(&m) == 0);
+  /* The greatest clock is 2^62. */
+  CHECK(detio_work(&m, 0, (UINT64_C(1) << 62) - 21) == DETIO_CLOCK_FULL && clock_of(&m, 0) == 22);
+  CHECK(detio_work(&m, 0, (UINT64_C(1) << 62) - 22) == DETIO_DONE && clock_of(&m, 0) == UINT64_C(1) << 62);
+  CHECK(!may_go(&m, 0) && !may_go(&m, 1) && holder(&m) == 0);
+  CHECK(detio_end(&m, 0) == DETIO_DONE && clock_of(&m, 0) == UINT64_C(1) << 62);
+  CHECK(detio_holder(&m, &is, &thread) == DETIO_DONE && !is && thread == 7);
+  CHECK(detio_finish(&m, &ended) == DETIO_DONE && ended.how == DETIO_ALL_ENDED);
+  CHECK(detio_clock(&m, 0, &clock) == DETIO_OVER && detio_holder(&m, &is, &thread) == DETIO_OVER);
+  CHECK(detio_may_go(&m, 0, &is) == DETIO_OVER);
+  detio_free(&m);
+}
+
 /* Attempts that are refused, since a clock is full: where others were made before in the same call, there may be
  * more, and only a call that made none is refused. */
 static void a_clock_is_full(void) {
@@ -300,6 +356,52 @@ static void small_buffers_lose_nothing_from_outside(void) {
   memset(data, 0, 9);
   CHECK(detio_answer(&m, 0, &reply, data, 5) == DETIO_DONE);
   CHECK(reply.kind == DETIO_DATA && reply.count == 5 && !memcmp(data, "hello", 5));
+  detio_free(&m);
+}
+
+/* A thread asks a call that goes outside, and is granted it at this clock. */
+static void goes_next(detio *m, size_t t, detio_call call, const char *text, uint64_t clock) {
+  CHECK(ask(m, t, call, text) == DETIO_DONE && !may_go(m, t));
+  CHECK(detio_settle(m) == DETIO_DONE && phase(m, t) == DETIO_TO_OUTSIDE && clock_of(m, t) == clock);
+}
+
+/* What came for it, and its reply, after which it is at this clock. */
+static void comes_back(detio *m, size_t t, detio_outcome came, const char *bytes, uint64_t clock) {
+  detio_reply reply;
+  CHECK(detio_record(m, t, &came, (const uint8_t *)bytes, strlen(bytes)) == DETIO_DONE && !may_go(m, t));
+  CHECK(detio_answer(m, t, &reply, data, sizeof data) == DETIO_DONE && clock_of(m, t) == clock);
+}
+
+/* Two threads that go outside in the order of turns: the second waits for the record of the first. */
+static void outside_in_turn(void) {
+  static const detio_call open = {.kind = DETIO_HOST_OPEN, .choice = DETIO_READ_ONLY};
+  detio m = {0};
+  detio_settings two = one;
+  bool goes;
+  uint64_t door;
+  two.threads = 2;
+  /* Each opens a file: two attempts, the way outside at 100, and the answer with two locks. */
+  CHECK(detio_new(&m, &two) == DETIO_DONE && detio_work(&m, 1, 105) == DETIO_DONE);
+  for (size_t t = 0; t < 2; t++) {
+    goes_next(&m, t, open, "in", t ? 108 : 3);
+    CHECK(holder(&m) == t && may_go(&m, t));
+    CHECK(detio_begin_outside(&m, t, &goes, &door) == DETIO_DONE && !goes && !may_go(&m, t));
+    CHECK(clock_of(&m, t) == (t ? 208 : 103));
+    comes_back(&m, t, (detio_outcome){.opened = 7 + t}, "", t ? 210 : 105);
+    CHECK(detio_work(&m, t, t ? 3 : 105) == DETIO_DONE);
+  }
+  /* Thread 0 is at 210, and thread 1 at 213. A read frees the table at its third unit, and holds one lock. */
+  goes_next(&m, 0, (detio_call){.kind = DETIO_READ, .descriptor = 0, .number = 9}, NULL, 213);
+  CHECK(holder(&m) == 0 && may_go(&m, 0));
+  CHECK(detio_begin_outside(&m, 0, &goes, &door) == DETIO_DONE && goes && door == 7 && clock_of(&m, 0) == 313);
+  goes_next(&m, 1, (detio_call){.kind = DETIO_READ, .descriptor = 1, .number = 9}, NULL, 216);
+  CHECK(holder(&m) == 1 && !may_go(&m, 1) && !may_go(&m, 0));
+  detio_outcome came = {.value = 5, .length = 5, .back = 7};
+  CHECK(detio_record(&m, 0, &came, (const uint8_t *)"hello", 5) == DETIO_DONE && phase(&m, 0) == DETIO_RECORDED);
+  CHECK(may_go(&m, 1) && !may_go(&m, 0) && clock_of(&m, 0) == 313);
+  CHECK(detio_begin_outside(&m, 1, &goes, &door) == DETIO_DONE && goes && door == 8 && clock_of(&m, 1) == 316);
+  comes_back(&m, 1, (detio_outcome){.value = 3, .length = 3, .back = 8}, "tea", 317);
+  CHECK(answered(&m).count == 5 && clock_of(&m, 0) == 314 && holder(&m) == 0);
   detio_free(&m);
 }
 
@@ -621,9 +723,11 @@ int main(int argc, char **argv) {
   calls_that_are_not_there();
   calls_that_fail();
   what_cannot_be();
+  clocks_and_turns();
   a_clock_is_full();
   small_buffers_lose_nothing();
   small_buffers_lose_nothing_from_outside();
+  outside_in_turn();
   outside_by_hand();
   one_thread_plays_two();
   waits_have_a_bound();

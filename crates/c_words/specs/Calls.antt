@@ -1,6 +1,6 @@
 -- The calls by their numbers and operands, as C says them.
-use Rattle.std.specs.Prelude.{ℕ, List, Bool, true, false, Option, Some, None, option_map, nat_lt}
-use Rattle.std.specs.Prelude.{if◌then◌else◌, ◌==◌, ◌%◌, ◌/◌}
+use Rattle.std.specs.Prelude.{◌≡◌, ℕ, List, Bool, true, false, Option, Some, None, option_map}
+use Rattle.std.specs.Prelude.{IsSomeAnd, nat_lt, if◌then◌else◌, ◌==◌, ◌%◌, ◌/◌}
 use Rattle.posix_terms.specs.Calls.{Call}
 use Rattle.posix_terms.specs.declared.call.Access.{Access}
 use Rattle.posix_terms.specs.declared.call.Access.TheVariants as access
@@ -170,3 +170,7 @@ has_text kind.HostOpen = true
 has_text kind.TcpListen = false
 has_text kind.TcpConnect = false
 has_text kind.TcpAccept = false
+
+-- C says a call of a kind with a path or bytes
+abbrev pub HasText : CallWords → Type 0
+HasText w = IsSomeAnd (kind_of w.kind) (λ k. has_text k ≡ true)

@@ -1,6 +1,6 @@
-ghost use Rattle.std.specs.Prelude.{◌≡◌, ℕ, List, true, false, Some, IfErr, IfOk};
-ghost use Rattle.c_words.specs.Calls.{access_of, call_as, call_of, flags_of, has_text, how_of};
-ghost use Rattle.c_words.specs.Calls.{kind_of, name_call, number_call, whence_of};
+ghost use Rattle.std.specs.Prelude.{◌≡◌, ℕ, List, true, false, Some, Err, IfErr, IfOk, OnErr};
+ghost use Rattle.c_words.specs.Calls.{HasText, access_of, call_as, call_of, flags_of, has_text};
+ghost use Rattle.c_words.specs.Calls.{how_of, kind_of, name_call, number_call, whence_of};
 ghost use Rattle.c_words.specs.Faults.{IsUnsaid};
 ghost use Rattle.c_words.specs.declared.fault.LibraryFault.TheVariants as fault;
 
@@ -19,6 +19,7 @@ pub fn call_of(
     ensures ok { IfOk result (λ call. call_of words.now text.now second.now ≡ Some call) }
     ensures refused { IfErr result
         (IsUnsaid fault.NotACall (call_of words.now text.now second.now)) }
+    ensures memory { result ≡ Err fault.NoMemory → HasText words.now }
 {
     if words.flags > 31 {
         return Err(LibraryFault::NotACall);
@@ -41,7 +42,8 @@ fn call_as(
     text: &[u8],
     second: &[u8],
 ) -> Result<Option<Call>, AllocError>
-    ensures { IfOk result (λ call. call ≡ call_as kind words.now text.now second.now) }
+    ensures ok { IfOk result (λ call. call ≡ call_as kind words.now text.now second.now) }
+    ensures memory { OnErr result (has_text kind ≡ true) }
 {
     if !has_text(kind) {
         return Ok(plain_call(kind, words));

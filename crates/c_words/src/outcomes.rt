@@ -1,4 +1,4 @@
-ghost use Rattle.std.specs.Prelude.{◌≡◌, ◌<◌, IfErr, IfOk, Some, length, take};
+ghost use Rattle.std.specs.Prelude.{◌≡◌, ◌<◌, Err, IfErr, IfOk, Some, length, take};
 ghost use Rattle.c_words.specs.Faults.{IsUnsaid};
 ghost use Rattle.c_words.specs.Words.{bytes_that_came, outcome_of, outcome_words};
 ghost use Rattle.c_words.specs.declared.fault.LibraryFault.TheVariants as fault;
@@ -18,6 +18,7 @@ pub fn outcome_of(
     ensures ok { IfOk result (λ o. outcome_of words.now bytes.now ≡ Some o) }
     ensures refused { IfErr result
         (IsUnsaid fault.NoAnswer (outcome_of words.now bytes.now)) }
+    ensures memory { result ≡ Err fault.NoMemory → words.now.error ≡ 0 }
 {
     if words.error == 0 {
         return Ok(Outcome::Ok {

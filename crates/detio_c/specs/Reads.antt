@@ -11,7 +11,7 @@ use Rattle.c_words.specs.declared.words.RunEnd.{RunEnd}
 use Rattle.lock_machine.specs.Refusals.{phase_at, wants_lock}
 use Rattle.lock_machine.specs.Threads.{Thread}
 use Rattle.lock_machine.specs.Views.{clocks_of}
-use Rattle.lock_machine.specs.Whole.{Whole}
+use Rattle.lock_machine.specs.Whole.{Whole, thread_at}
 use Rattle.lock_machine.specs.declared.thread.Outing.{Outing}
 use Rattle.lock_machine.specs.declared.thread.Phase.{Phase}
 use Rattle.lock_machine.specs.declared.thread.Phase.TheVariants as phase
@@ -19,6 +19,7 @@ use Rattle.logical_clocks.specs.TurnOrder.{has_turn, turn_holder}
 use Rattle.machine.specs.Doors.{door_at, taken_along}
 use Rattle.machine.specs.Events.{Tells}
 use Rattle.machine.specs.Finishing.{Finishes, have_ended}
+use Rattle.machine.specs.InTurn.{may_go}
 use Rattle.machine.specs.Requests.{IsOutsideTurn, IsRequest, out_of}
 use Rattle.machine.specs.Shown.{Shown}
 use Rattle.machine.specs.declared.stop.Stop.{Stop}
@@ -60,6 +61,24 @@ IsAtPhase i n m = n ≡ phase_code (phase_at m.whole i)
 -- thread i has the turn, or not
 abbrev pub HasTurn : ℕ → Bool → Shown ℕ → Type 0
 HasTurn i has m = has ≡ has_turn (clocks_of m.whole.threads) i
+
+-- thread i has this clock: one that has ended, that at which it did
+abbrev pub HasClock : ℕ → ℕ → Shown ℕ → Type 0
+HasClock i clock m = clock ≡ (thread_at m.whole i).clock
+
+-- this thread has the turn, or nobody has
+abbrev pub IsHolder : Option ℕ → Shown ℕ → Type 0
+IsHolder o m = o ≡ turn_holder (clocks_of m.whole.threads)
+
+-- C reads whether one has, and which; where nobody has, its number is as it was
+abbrev pub ReadsHolder : Bool → ℕ → ℕ → Option ℕ → Type 0
+ReadsHolder there old new (Some i) = (there ≡ true) × (new ≡ i)
+ReadsHolder there old new None = (there ≡ false) × (new ≡ old)
+
+-- thread i is about to go outside, and each call that was granted before its own and goes outside
+-- has its record, or it is not so
+abbrev pub MayGo : ℕ → Bool → Shown ℕ → Type 0
+MayGo i may m = may ≡ may_go m.whole.threads (phase_at m.whole i)
 
 -- nobody has the turn, or who has it attempts no lock now
 abbrev pub Rests : Shown ℕ → Type 0

@@ -1,12 +1,15 @@
 -- Why a call of the library is refused.
 use Rattle.std.specs.Prelude.{◌≡◌, ◌<◌, ◌≤◌, ℕ, Bool, true, false, ◌&&◌, ◌||◌, ◌==◌, not, List}
 use Rattle.std.specs.Prelude.{length, slice_get, is_some, Option, Some, None, IfSome, IsSomeAnd}
-use Rattle.std.specs.Prelude.{MatchOption}
+use Rattle.std.specs.Prelude.{MatchOption, ◌⊎◌}
+use Rattle.c_words.specs.Calls.{HasText}
 use Rattle.c_words.specs.Faults.{code_of}
 use Rattle.c_words.specs.Requests.{text_of}
 use Rattle.c_words.specs.Words.{bytes_that_came}
 use Rattle.c_words.specs.declared.fault.LibraryFault.{LibraryFault}
 use Rattle.c_words.specs.declared.fault.LibraryFault.TheVariants as fault
+use Rattle.c_words.specs.declared.words.CallWords.{CallWords}
+use Rattle.c_words.specs.declared.words.OutcomeWords.{OutcomeWords}
 use Rattle.input_log.specs.Fronts.{HasNoFront, IsFront}
 use Rattle.input_log.specs.Grammar.{in_range}
 use Rattle.input_log.specs.Headers.{header_for}
@@ -58,6 +61,11 @@ OfThread i Why f s = IsSomeAnd s.machine (λ m. (i < length m.whole.threads) × 
 abbrev pub NothingElse : LibraryFault → Shown ℕ → Type 0
 NothingElse f m = ⊥
 
+-- the run is over, and nothing else is why
+abbrev pub IsOver : LibraryFault → Session → Type 0
+IsOver fault.Over s = s.machine ≡ None
+IsOver f s = ⊥
+
 -- ## Events
 
 -- the run is stopped, or thread i is at no phase for an event with this, or a number forbids it
@@ -80,11 +88,13 @@ abbrev pub RefusesAsking : Step → ℕ → LibraryFault → Session → Type 0
 RefusesAsking asked i =
     OfThread i (RefusesMaking (λ p. works p && not (is_end asked)) (Asks asked) i)
 
--- or C says no call, or there is no memory for it, or thread i cannot ask it
-abbrev pub RefusesCall : Option Call → ℕ → LibraryFault → Session → Type 0
-RefusesCall o i fault.NotACall s = o ≡ None
-RefusesCall o i fault.NoMemory s = Unit {0}
-RefusesCall o i f s = IsSomeAnd o (λ c. RefusesAsking (step.Call c) i f s)
+-- or C says no call; or one with a path or bytes, and there is no memory for them; or thread i
+-- cannot ask it
+abbrev pub RefusesCall : CallWords → Option Call → ℕ → LibraryFault → Session → Type 0
+RefusesCall words o i fault.NotACall s = o ≡ None
+RefusesCall words o i fault.NoMemory s =
+    HasText words ⊎ IsSomeAnd o (λ c. RefusesAsking (step.Call c) i fault.NoMemory s)
+RefusesCall words o i f s = IsSomeAnd o (λ c. RefusesAsking (step.Call c) i f s)
 
 -- whoever has the turn makes no attempt: the run is stopped, or a number forbids it
 abbrev pub RefusesAttempt : LibraryFault → Shown ℕ → Type 0
@@ -128,14 +138,15 @@ FitsNothing i came m = IfSome came (λ o. IsSomeAnd (awaited (phase_at m.whole i
     (λ e. fits e.kind e.asked o ≡ false))
 
 -- thread i is not outside, or C says no outcome, or one that does not fit, or the run is stopped,
--- or there is no memory
-abbrev pub RefusesOutcome : Option Outcome → ℕ → LibraryFault → Shown ℕ → Type 0
-RefusesOutcome came i fault.WrongPhase m = is_outside (phase_at m.whole i) ≡ false
-RefusesOutcome came i fault.NoMemory m = is_outside (phase_at m.whole i) ≡ true
-RefusesOutcome came i fault.NoAnswer m =
+-- or there is no memory for the bytes of one that succeeded
+abbrev pub RefusesOutcome : OutcomeWords → Option Outcome → ℕ → LibraryFault → Shown ℕ → Type 0
+RefusesOutcome words came i fault.WrongPhase m = is_outside (phase_at m.whole i) ≡ false
+RefusesOutcome words came i fault.NoMemory m =
+    (is_outside (phase_at m.whole i) ≡ true) × (words.error ≡ 0)
+RefusesOutcome words came i fault.NoAnswer m =
     (is_outside (phase_at m.whole i) ≡ true) × FitsNothing i came m
-RefusesOutcome came i fault.Stopped m = is_some m.stop ≡ true
-RefusesOutcome came i f m = ⊥
+RefusesOutcome words came i fault.Stopped m = is_some m.stop ≡ true
+RefusesOutcome words came i f m = ⊥
 
 -- thread i asks nothing outside; or the log has nothing for it, or nothing that answers it, or more
 -- bytes than there is room for

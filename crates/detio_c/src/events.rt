@@ -1,6 +1,8 @@
 ghost use Rattle.std.specs.Prelude.{◌≡◌, ◌⊎◌, IfErr, MatchResult, OnErr, OnOk, length};
 ghost use Rattle.lock_machine.specs.Refusals.{goes_outside, is_blocked, works};
+ghost use Rattle.lock_machine.specs.Views.{clocks_of};
 ghost use Rattle.lock_model.specs.Machine.Event.{Advances};
+ghost use Rattle.logical_clocks.specs.TurnOrder.{turn_holder};
 ghost use Rattle.machine.specs.Runs.Coming.{Asks, Nothing};
 ghost use Rattle.posix_terms.specs.declared.step.Step.TheVariants as step;
 ghost use Rattle.c_words.specs.Calls.{call_of};
@@ -8,11 +10,13 @@ ghost use Rattle.c_words.specs.Faults.{code_of};
 ghost use Rattle.c_words.specs.Words.{outcome_of};
 ghost use Rattle.detio_c.specs.Promise.{AsksCall, HasAsked, HasCome, HasFilled, HasGone, HasGrown};
 ghost use Rattle.detio_c.specs.Promise.{HasSettled, IsFaithfulIn, IsRefusal, KeepsRest};
-ghost use Rattle.detio_c.specs.Reads.{HasTurn, InBoth, InMachine, IsAtPhase, MakesAgain, ReadsDoor};
-ghost use Rattle.detio_c.specs.Reads.{ReadsReply, ReadsRequest, Rests, door_along};
-ghost use Rattle.detio_c.specs.Refused.{IsForSession, NothingElse, OfThread, RefusesAnswer};
-ghost use Rattle.detio_c.specs.Refused.{RefusesAsking, RefusesCall, RefusesEvent, RefusesMaking};
-ghost use Rattle.detio_c.specs.Refused.{RefusesOutcome, RefusesRequest, RefusesSettling};
+ghost use Rattle.detio_c.specs.Reads.{HasClock, HasTurn, InBoth, InMachine, IsAtPhase};
+ghost use Rattle.detio_c.specs.Reads.{MakesAgain, MayGo, ReadsDoor, ReadsHolder, ReadsReply};
+ghost use Rattle.detio_c.specs.Reads.{ReadsRequest, Rests, door_along};
+ghost use Rattle.detio_c.specs.Refused.{IsForSession, IsOver, NothingElse, OfThread};
+ghost use Rattle.detio_c.specs.Refused.{RefusesAnswer, RefusesAsking, RefusesCall, RefusesEvent};
+ghost use Rattle.detio_c.specs.Refused.{RefusesMaking, RefusesOutcome, RefusesRequest};
+ghost use Rattle.detio_c.specs.Refused.{RefusesSettling};
 
 use crate::handle::Handle;
 use crate::place::{put, taken};
@@ -51,8 +55,8 @@ fn ask_call(
     ensures refused { OnErr result (session.new ≡ session.old) }
     ensures grown { OnOk result (AsksCall (call_of call.now text.now second.now) thread
         session.old.machine session.new.machine) }
-    ensures why { IfErr result (λ f. RefusesCall (call_of call.now text.now second.now) thread f
-        session.old) }
+    ensures why { IfErr result (λ f. RefusesCall call.now
+        (call_of call.now text.now second.now) thread f session.old) }
 {
     session.ask(thread, Step::Call(call_of(alloc, call, text, second)?))
 }
@@ -72,7 +76,7 @@ pub extern "C" fn detio_ask(
         → HasAsked call.now text.now second.now thread h.old.value h.new.value }
     ensures refused { IsRefusal 0 result → h.new.value ≡ h.old.value }
     ensures why { IsRefusal 0 result → IsForSession
-        (RefusesCall (call_of call.now text.now second.now) thread) result h.old.value }
+        (RefusesCall call.now (call_of call.now text.now second.now) thread) result h.old.value }
 {
     let Some(session) = taken(alloc, h) else {
         return LibraryFault::NoSession.code();
@@ -217,6 +221,89 @@ pub extern "C" fn detio_has_turn(
     }
 }
 
+/// The clock of thread `thread`. That of a thread that has ended is the one at which it did.
+#[unsafe(no_mangle)]
+pub extern "C" fn detio_clock(alloc: Global, h: &mut Handle, thread: usize, clock: &mut u64) -> u32
+    ensures faithful { IsFaithfulIn h.new.value }
+    ensures clock { result ≡ 0 → InMachine h.old.value (HasClock thread clock.new) }
+    ensures unchanged { h.new.value ≡ h.old.value }
+    ensures why { IsRefusal 0 result
+        → IsForSession (OfThread thread NothingElse) result h.old.value }
+{
+    let Some(session) = taken(alloc, h) else {
+        return LibraryFault::NoSession.code();
+    };
+    let mut session = session;
+    let made = session.clock(thread);
+    put(h, session);
+    match made {
+        Ok(found) => {
+            *clock = found;
+            DONE
+        }
+        Err(fault) => fault.code(),
+    }
+}
+
+/// Whether some thread has the turn, and which: where nobody has, `thread` is left as it was.
+#[unsafe(no_mangle)]
+pub extern "C" fn detio_holder(
+    alloc: Global,
+    h: &mut Handle,
+    there: &mut bool,
+    thread: &mut usize,
+) -> u32
+    ensures faithful { IsFaithfulIn h.new.value }
+    ensures holder { result ≡ 0 → InMachine h.old.value (λ m. ReadsHolder there.new
+        thread.old thread.new (turn_holder (clocks_of m.whole.threads))) }
+    ensures unchanged { h.new.value ≡ h.old.value }
+    ensures why { IsRefusal 0 result → IsForSession IsOver result h.old.value }
+{
+    let Some(session) = taken(alloc, h) else {
+        return LibraryFault::NoSession.code();
+    };
+    let mut session = session;
+    let made = session.holder();
+    put(h, session);
+    match made {
+        Ok(Some(found)) => {
+            *there = true;
+            *thread = found;
+            DONE
+        }
+        Ok(None) => {
+            *there = false;
+            DONE
+        }
+        Err(fault) => fault.code(),
+    }
+}
+
+/// Whether thread `thread` is about to go outside, and each call that was granted before its own and goes outside has
+/// its record.
+#[unsafe(no_mangle)]
+pub extern "C" fn detio_may_go(alloc: Global, h: &mut Handle, thread: usize, may: &mut bool) -> u32
+    ensures faithful { IsFaithfulIn h.new.value }
+    ensures go { result ≡ 0 → InMachine h.old.value (MayGo thread may.new) }
+    ensures unchanged { h.new.value ≡ h.old.value }
+    ensures why { IsRefusal 0 result
+        → IsForSession (OfThread thread NothingElse) result h.old.value }
+{
+    let Some(session) = taken(alloc, h) else {
+        return LibraryFault::NoSession.code();
+    };
+    let mut session = session;
+    let made = session.may_go(thread);
+    put(h, session);
+    match made {
+        Ok(found) => {
+            *may = found;
+            DONE
+        }
+        Err(fault) => fault.code(),
+    }
+}
+
 /// The answer of the thread's call, with the bytes of a read in `buffer`; 2 where the call is made again.
 #[unsafe(no_mangle)]
 pub extern "C" fn detio_answer(
@@ -334,7 +421,7 @@ pub extern "C" fn detio_record(
     ensures refused { IsRefusal 9 result → h.new.value ≡ h.old.value }
     ensures full { result ≡ 9 → HasFilled outcome.now bytes.now thread h.old.value h.new.value }
     ensures why { IsRefusal 9 result → IsForSession (OfThread thread
-        (RefusesOutcome (outcome_of outcome.now bytes.now) thread)) result h.old.value }
+        (RefusesOutcome outcome.now (outcome_of outcome.now bytes.now) thread)) result h.old.value }
 {
     let Some(session) = taken(alloc, h) else {
         return LibraryFault::NoSession.code();

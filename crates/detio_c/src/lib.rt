@@ -19,8 +19,9 @@ mod place;
 mod session;
 
 pub use events::{
-    detio_again, detio_answer, detio_ask, detio_begin_outside, detio_end, detio_has_turn,
-    detio_phase, detio_record, detio_request, detio_settle, detio_work,
+    detio_again, detio_answer, detio_ask, detio_begin_outside, detio_clock, detio_end,
+    detio_has_turn, detio_holder, detio_may_go, detio_phase, detio_record, detio_request,
+    detio_settle, detio_work,
 };
 pub use life::{
     detio_finish, detio_free, detio_log, detio_new, detio_next, detio_open_log, detio_stop,

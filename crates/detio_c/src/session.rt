@@ -12,15 +12,16 @@ ghost use Rattle.posix_terms.specs.declared.step.Step.TheVariants as step;
 ghost use Rattle.detio_c.specs.Begun.{Begins, BeginsReplay, outcomes_by, settings_said};
 ghost use Rattle.detio_c.specs.Promise.{BringsOutcome, FillsLog, GoesOut, GrowsBy, HasSettled};
 ghost use Rattle.detio_c.specs.Promise.{KeepsRest, LeadsBy, MayHaveAttempted};
-ghost use Rattle.detio_c.specs.Reads.{HasFinished, HasStopped, HasTurn, IsAtPhase, ReadsAnswer};
-ghost use Rattle.detio_c.specs.Reads.{ReadsLogOf, ReadsNext, ReadsRequest, Rests, came_for};
-ghost use Rattle.detio_c.specs.Reads.{counts_in, counts_of, door_along, next_logged, phase_code};
+ghost use Rattle.detio_c.specs.Reads.{HasClock, HasFinished, HasStopped, HasTurn, IsAtPhase};
+ghost use Rattle.detio_c.specs.Reads.{IsHolder, MayGo, ReadsAnswer, ReadsLogOf, ReadsNext};
+ghost use Rattle.detio_c.specs.Reads.{ReadsRequest, Rests, came_for, counts_in, counts_of};
+ghost use Rattle.detio_c.specs.Reads.{door_along, next_logged, phase_code};
 ghost use Rattle.detio_c.specs.Reads.{Brings, bytes_at_end, bytes_came, unused_of, waits_in};
-ghost use Rattle.detio_c.specs.Refused.{NothingElse, OfThread, RefusesAnswer, RefusesAsking};
-ghost use Rattle.detio_c.specs.Refused.{RefusesAttempt, RefusesCount, RefusesEnd, RefusesEvent};
-ghost use Rattle.detio_c.specs.Refused.{RefusesLog, RefusesMaking, RefusesNext, RefusesOutcome};
-ghost use Rattle.detio_c.specs.Refused.{RefusesReplay, RefusesRequest, RefusesRun, RefusesSettling};
-ghost use Rattle.detio_c.specs.Refused.{RefusesStop, bytes_due};
+ghost use Rattle.detio_c.specs.Refused.{IsOver, NothingElse, OfThread, RefusesAnswer};
+ghost use Rattle.detio_c.specs.Refused.{RefusesAsking, RefusesAttempt, RefusesCount, RefusesEnd};
+ghost use Rattle.detio_c.specs.Refused.{RefusesEvent, RefusesLog, RefusesMaking, RefusesNext};
+ghost use Rattle.detio_c.specs.Refused.{RefusesOutcome, RefusesReplay, RefusesRequest, RefusesRun};
+ghost use Rattle.detio_c.specs.Refused.{RefusesSettling, RefusesStop, bytes_due};
 
 use crate::ends::{doors_of, run_end};
 use crate::fault::fault_of;
@@ -220,6 +221,46 @@ impl Session {
         Ok(machine.has_turn(i))
     }
 
+    /// The clock of thread i. That of a thread that has ended is the one at which it did.
+    pub fn clock(&self, i: usize) -> Result<u64, LibraryFault>
+        ensures clock { IfOk result (λ clock. IsSomeAnd self.now.machine (HasClock i clock)) }
+        ensures why { IfErr result (λ f. OfThread i NothingElse f self.now) }
+    {
+        let Some(machine) = &self.machine else {
+            return Err(LibraryFault::Over);
+        };
+        if i >= machine.len() {
+            return Err(LibraryFault::NoThread);
+        }
+        Ok(machine.clock(i))
+    }
+
+    /// The thread that has the turn, if one has.
+    pub fn holder(&self) -> Result<Option<usize>, LibraryFault>
+        ensures holder { IfOk result (λ holder. IsSomeAnd self.now.machine (IsHolder holder)) }
+        ensures why { IfErr result (λ f. IsOver f self.now) }
+    {
+        let Some(machine) = &self.machine else {
+            return Err(LibraryFault::Over);
+        };
+        Ok(machine.turn_holder())
+    }
+
+    /// Whether thread i is about to go outside, and each call that was granted before its own and goes outside has its
+    /// record.
+    pub fn may_go(&self, i: usize) -> Result<bool, LibraryFault>
+        ensures go { IfOk result (λ may. IsSomeAnd self.now.machine (MayGo i may)) }
+        ensures why { IfErr result (λ f. OfThread i NothingElse f self.now) }
+    {
+        let Some(machine) = &self.machine else {
+            return Err(LibraryFault::Over);
+        };
+        if i >= machine.len() {
+            return Err(LibraryFault::NoThread);
+        }
+        Ok(machine.may_go(i))
+    }
+
     /// The answer of thread i's call, or none where it makes the call again. Where `buffer` has no room for its bytes
     /// nothing happens.
     pub fn answer(
@@ -312,7 +353,7 @@ impl Session {
             self.old.machine self.new.machine) }
         ensures refused { IfErr result (λ f. (f ≡ fault.LogFull → ⊥) → self.new ≡ self.old) }
         ensures why { IfErr result (λ f. (f ≡ fault.LogFull → ⊥)
-            → OfThread i (RefusesOutcome (outcome_of words.now bytes.now) i) f self.old) }
+            → OfThread i (RefusesOutcome words.now (outcome_of words.now bytes.now) i) f self.old) }
         ensures full { IfErr result (λ f. f ≡ fault.LogFull
             → FillsLog (outcome_of words.now bytes.now) i self.old.machine self.new.machine) }
     {
