@@ -10,8 +10,8 @@ _detio() {
   fi
   ((COMP_CWORD < 2)) || command=${COMP_WORDS[1]}
   case $command in
-    '') options='check plain explore faults minimise record replay compare draw show make upgrade help -h --help -V --version' ;;
-    help) options='check plain explore faults minimise record replay compare draw show make upgrade help' ;;
+    '') options='check plain explore faults minimise record replay run rerun compare draw show make upgrade help -h --help -V --version' ;;
+    help) options='check plain explore faults minimise record replay run rerun compare draw show make upgrade help' ;;
     check) options='--why -h --help' paths=yes ;;
     plain) options='--patience --door-cost --turns --calls --by-turn --lanes --json --expect --why -h --help' paths=yes ;;
     explore) options='--seeds --delays --most --only --reach --jobs --write --patience --door-cost --log --why -h --help' paths=yes ;;
@@ -19,6 +19,8 @@ _detio() {
     minimise) options='--write --patience --door-cost --log --why -h --help' paths=yes ;;
     record) options='--log --log-version --force --wait --in-turn --follow --patience --door-cost --turns --calls --by-turn --lanes --json --expect --why -h --help' paths=yes ;;
     replay) options='--log --threads --turns --calls --by-turn --lanes --json --expect --why -h --help' paths=yes ;;
+    run) options='--log --force --threads --mem --pass --seed --fault --overlap --parallel --env -h --help' paths=yes ;;
+    rerun) options='--log --force -h --help' paths=yes ;;
     compare) options='--log --with --rows --no-turns --why -h --help' paths=yes ;;
     draw) options='--out --trace --log --with --patience --door-cost --why -h --help' paths=yes ;;
     show) options='--log --json --why -h --help' ;;
@@ -39,6 +41,10 @@ _detio() {
     record,--log) compopt -o default; return ;;
     record,--log-version | record,--wait | record,--patience | record,--door-cost) return ;;
     replay,--log) compopt -o default; return ;;
+    run,--log) compopt -o default; return ;;
+    run,--threads | run,--seed | run,--fault | run,--env) return ;;
+    run,--mem | run,--pass) compopt -o dirnames; return ;;
+    rerun,--log) compopt -o default; return ;;
     compare,--log | compare,--with) compopt -o default; return ;;
     draw,--out | draw,--trace | draw,--log | draw,--with) compopt -o default; return ;;
     draw,--patience | draw,--door-cost) return ;;

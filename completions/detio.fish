@@ -9,6 +9,8 @@ complete -c detio -n __fish_use_subcommand -a faults -d 'Runs scripts by a log w
 complete -c detio -n __fish_use_subcommand -a minimise -d 'Reduces failing scripts to what the failure needs'
 complete -c detio -n __fish_use_subcommand -a record -d 'Runs 1 to 16 scripts as threads, with host files and loopback TCP, and records what comes from them'
 complete -c detio -n __fish_use_subcommand -a replay -d 'Runs scripts by the log of what came from outside and prints their transcripts'
+complete -c detio -n __fish_use_subcommand -a run -d 'Runs a program as it is, and records what comes to it from outside'
+complete -c detio -n __fish_use_subcommand -a rerun -d 'Runs a program again by its log'
 complete -c detio -n __fish_use_subcommand -a compare -d 'Says whether two logs give the threads of the same scripts the same replies'
 complete -c detio -n __fish_use_subcommand -a draw -d 'Draws a run, or two under each other, as a page for a browser'
 complete -c detio -n __fish_use_subcommand -a show -d 'Prints a log'
@@ -87,6 +89,22 @@ complete -c detio -n '__fish_seen_subcommand_from replay' -l expect -d 'Holds ea
 complete -c detio -n '__fish_seen_subcommand_from replay' -l why -d 'Adds after a fault why the host refused, or why a run stopped'
 complete -c detio -n '__fish_seen_subcommand_from replay' -s h -l help -d 'Print help (see a summary with \'-h\')'
 complete -c detio -n '__fish_seen_subcommand_from replay' -F
+complete -c detio -n '__fish_seen_subcommand_from run' -l log -r -F -d 'The log to write (default: NAME.detio-log, NAME being the last part of PROGRAM)'
+complete -c detio -n '__fish_seen_subcommand_from run' -l force -d 'Replaces a file at the log\'s path'
+complete -c detio -n '__fish_seen_subcommand_from run' -l threads -x -d 'How many threads may live at once, 1 to 16'
+complete -c detio -n '__fish_seen_subcommand_from run' -l mem -x -a '(__fish_complete_directories)' -d 'Paths below it live in the run, in memory'
+complete -c detio -n '__fish_seen_subcommand_from run' -l pass -x -a '(__fish_complete_directories)' -d 'Paths below it go to the host and are not recorded'
+complete -c detio -n '__fish_seen_subcommand_from run' -l seed -x -d 'Works before calls and locks, for times that the seed says'
+complete -c detio -n '__fish_seen_subcommand_from run' -l fault -x -d 'The K-th outcome from outside that can fail is EIO'
+complete -c detio -n '__fish_seen_subcommand_from run' -l overlap -d 'Lets calls to the outside overlap'
+complete -c detio -n '__fish_seen_subcommand_from run' -l parallel -d 'Lets threads compute at the same time'
+complete -c detio -n '__fish_seen_subcommand_from run' -l env -x -d 'An environment variable that the program has; it has no others then'
+complete -c detio -n '__fish_seen_subcommand_from run' -s h -l help -d 'Print help (see a summary with \'-h\')'
+complete -c detio -n '__fish_seen_subcommand_from run' -F
+complete -c detio -n '__fish_seen_subcommand_from rerun' -l log -r -F -d 'The log to run the program by'
+complete -c detio -n '__fish_seen_subcommand_from rerun' -l force -d 'Goes on where the program, its libraries or its words differ from the log\'s'
+complete -c detio -n '__fish_seen_subcommand_from rerun' -s h -l help -d 'Print help (see a summary with \'-h\')'
+complete -c detio -n '__fish_seen_subcommand_from rerun' -F
 complete -c detio -n '__fish_seen_subcommand_from compare' -l log -r -F -d 'One log to replay; - is standard input'
 complete -c detio -n '__fish_seen_subcommand_from compare' -l with -r -F -d 'The log to compare it with'
 complete -c detio -n '__fish_seen_subcommand_from compare' -l rows -d 'Prints the rows that differ, those before, and how each replay ended'
@@ -118,4 +136,4 @@ complete -c detio -n '__fish_seen_subcommand_from upgrade' -l force -d 'Replaces
 complete -c detio -n '__fish_seen_subcommand_from upgrade' -l why -d 'Adds after a fault why the host refused, or why a run stopped'
 complete -c detio -n '__fish_seen_subcommand_from upgrade' -s h -l help -d 'Print help (see a summary with \'-h\')'
 complete -c detio -n '__fish_seen_subcommand_from upgrade' -F
-complete -c detio -n '__fish_seen_subcommand_from help' -a 'check plain explore faults minimise record replay compare draw show make upgrade help'
+complete -c detio -n '__fish_seen_subcommand_from help' -a 'check plain explore faults minimise record replay run rerun compare draw show make upgrade help'

@@ -6,9 +6,9 @@ import sys
 from dataclasses import dataclass, field
 
 HEADS = {"Commands:": "commands", "Arguments:": "arguments", "Options:": "options"}
-# Values of these names are paths.
-FILES = {"FILE", "SCRIPT", "TEXT"}
-FOLDERS = {"DIR"}
+# Values of these names are paths, or may be.
+FILES = {"FILE", "SCRIPT", "TEXT", "PROGRAM", "ARGS"}
+FOLDERS = {"DIR", "PREFIX"}
 
 
 @dataclass

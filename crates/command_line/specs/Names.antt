@@ -12,5 +12,5 @@ name_of c = (shape_of c).name
 abbrev pub all_names : List (List ℕ)
 all_names =
     codes "check" ∷ codes "plain" ∷ codes "explore" ∷ codes "faults" ∷ codes "minimise"
-    ∷ codes "record" ∷ codes "replay" ∷ codes "compare" ∷ codes "draw" ∷ codes "show"
-    ∷ codes "make" ∷ codes "upgrade" ∷ []
+    ∷ codes "record" ∷ codes "replay" ∷ codes "run" ∷ codes "rerun" ∷ codes "compare"
+    ∷ codes "draw" ∷ codes "show" ∷ codes "make" ∷ codes "upgrade" ∷ []

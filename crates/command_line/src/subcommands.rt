@@ -1,4 +1,4 @@
-ghost use Rattle.std.specs.Prelude.{◌≡◌, ◌∷◌, ◌++◌, [], IfOk, codes, take};
+ghost use Rattle.std.specs.Prelude.{◌≡◌, ◌∷◌, ◌++◌, [], IfOk, codes, map};
 ghost use Rattle.clap.specs.Words.{subcommand_names};
 ghost use Rattle.command_line.specs.Names.{all_names, name_of};
 
@@ -12,7 +12,9 @@ comes from logical clocks alone, so a run prints the same each time, on every ma
 from outside, from host files and over TCP, stands in a log, and a run is replayed by its log with no
 host file and no network. Two logs are compared by what the threads see when each is replayed. Many
 schedules of one set of scripts are explored, by seeds or by lists of delays, and many failures by a
-log; and scripts that fail are reduced to what the failure needs.";
+log; and scripts that fail are reduced to what the failure needs.
+
+detio run records a program as it is, and detio rerun runs it again by that log.";
 
 const AFTER_HELP: &str = "Example:
   printf 'open /a rw create\\nwrite 0 x6869\\nlseek 0 0 set\\nread 0 9\\n' > hi.script
@@ -33,11 +35,25 @@ Exit statuses:
   3  a bad script, expectation, log or text of a log; or it does not have what is asked for
   4  a file that cannot be read or written, no memory, a full clock, threads that strayed
 
-It runs scripts, not programs. Each command's --help has its limits, its statuses and an example.";
+The commands run scripts, but for run and rerun, which take programs and have statuses of their own.
+Each command's --help has its limits, its statuses and an example.";
 
-const CHECK_ABOUT: &str = "Says which lines of scripts are bad, and why, without running them";
+// A subcommand: what its help says of it in one line, above its options and below them; its usage, where that is not
+// made of its arguments; and its arguments.
+#[derive(Clone, Copy)]
+struct Subcommand {
+    name: &'static str,
+    about: &'static str,
+    long_about: &'static str,
+    after_help: &'static str,
+    usage: Option<&'static str>,
+    args: &'static [Argument],
+}
 
-const CHECK_LONG_ABOUT: &str = "Says which lines of scripts are bad, and why, without running them.
+const CHECK: Subcommand = Subcommand {
+    name: "check",
+    about: "Says which lines of scripts are bad, and why, without running them",
+    long_about: "Says which lines of scripts are bad, and why, without running them.
 
 The language is that of detio plain, whose --help has it. A line is printed for each bad line, up to
 20 of a script: where it is, by the line and the column, each from 1, then what is expected there,
@@ -60,19 +76,22 @@ Exit statuses:
   0  all are scripts; there may be warnings
   2  wrong usage
   3  a script has a bad line, or too many lines
-  4  a script that cannot be read, output that cannot be written, no memory";
-
-const CHECK_AFTER_HELP: &str = "Example:
+  4  a script that cannot be read, output that cannot be written, no memory",
+    after_help: "Example:
   printf 'open /a create rw\\nread 0\\n' > bad.script
   detio check bad.script
 
 prints, with status 3
   bad.script:1:9: r, w or rw is expected, \"create\" stands there
-  bad.script:2:7: a number or a register r0 to r15 is expected, the line ends here";
+  bad.script:2:7: a number or a register r0 to r15 is expected, the line ends here",
+    usage: None,
+    args: &[SCRIPTS_TO_CHECK, WHY],
+};
 
-const PLAIN_ABOUT: &str = "Runs 1 to 16 scripts together and prints their transcripts";
-
-const PLAIN_LONG_ABOUT: &str = "Runs 1 to 16 scripts together and prints their transcripts.
+const PLAIN: Subcommand = Subcommand {
+    name: "plain",
+    about: "Runs 1 to 16 scripts together and prints their transcripts",
+    long_about: "Runs 1 to 16 scripts together and prints their transcripts.
 
 Each script is a thread, from 0 in the order given. All share one table of descriptors and the files,
 pipes and pairs of sockets in memory, and the thread whose logical clock is least has the turn; of two
@@ -177,9 +196,8 @@ Exit statuses:
   1  end of log: a thread is at a call that goes outside; or a reply is not as expected
   2  wrong usage
   3  a bad script or expectation
-  4  a script that cannot be read, output that cannot be written, no memory, a full clock";
-
-const PLAIN_AFTER_HELP: &str = "Example:
+  4  a script that cannot be read, output that cannot be written, no memory, a full clock",
+    after_help: "Example:
   printf 'work 3\\nopen /a rw create\\n' > late.script
   printf 'open /a rw create\\n' > early.script
   detio plain --turns late.script early.script
@@ -187,12 +205,17 @@ const PLAIN_AFTER_HELP: &str = "Example:
 prints
   0 0 4 open number 1
   1 0 1 open number 0
-  end";
+  end",
+    usage: None,
+    args: &[
+        PATIENCE, DOOR_COST, TURNS, CALLS, BY_TURN, LANES, JSON, EXPECT, SCRIPTS, WHY,
+    ],
+};
 
-const EXPLORE_ABOUT: &str = "Runs scripts with many delays, to find a schedule that breaks them";
-
-const EXPLORE_LONG_ABOUT: &str =
-    "Runs scripts with many delays, to find a schedule that breaks them.
+const EXPLORE: Subcommand = Subcommand {
+    name: "explore",
+    about: "Runs scripts with many delays, to find a schedule that breaks them",
+    long_about: "Runs scripts with many delays, to find a schedule that breaks them.
 
 detio plain has one order of calls, and a failure that needs another order never shows. Here
 (schedule fuzzing) the scripts also run once for each seed, with a line work N before each line of a
@@ -245,10 +268,8 @@ Exit statuses:
   1  a reply is not as expected
   2  wrong usage
   3  a bad script, expectation or log, or a script that has no room for its delays
-  4  a file that cannot be read or written, no memory";
-
-const EXPLORE_AFTER_HELP: &str =
-    "Example: both threads look whether a file is there before they make it.
+  4  a file that cannot be read or written, no memory",
+    after_help: "Example: both threads look whether a file is there before they make it.
   printf 'open /a r\\njfail make\\nend\\nlabel make\\n' > a.script
   printf 'open /a w create excl\\n#= not fail\\n' >> a.script
   detio explore --seeds 0..100 a.script a.script
@@ -263,12 +284,17 @@ prints
 and
   detio explore --only 2 --write race a.script a.script
   detio plain --expect race/0.script race/1.script
-shows that run.";
+shows that run.",
+    usage: None,
+    args: &[
+        SEEDS, DELAYS, MOST, ONLY, REACH, JOBS, WRITE, PATIENCE, DOOR_COST, OUTCOMES, SCRIPTS, WHY,
+    ],
+};
 
-const FAULTS_ABOUT: &str = "Runs scripts by a log with one outcome replaced at a time";
-
-const FAULTS_LONG_ABOUT: &str =
-    "Runs scripts by a log with one outcome replaced at a time, to find a failure that breaks them.
+const FAULTS: Subcommand = Subcommand {
+    name: "faults",
+    about: "Runs scripts by a log with one outcome replaced at a time",
+    long_about: "Runs scripts by a log with one outcome replaced at a time, to find a failure that breaks them.
 
 The scripts run as under detio plain, and the calls that go outside take the outcomes of the log, in
 their order and whatever their clocks; the patience and the door cost are the log's. They run once
@@ -305,9 +331,8 @@ Exit statuses:
   2  wrong usage
   3  a bad script, expectation or log, or a log that has no such record,
      or one that cannot be replaced so
-  4  a file that cannot be read or written, no memory";
-
-const FAULTS_AFTER_HELP: &str = "Example: a short read is not made up for
+  4  a file that cannot be read or written, no memory",
+    after_help: "Example: a short read is not made up for
   printf hi > in.txt
   printf 'host_open in.txt r\\njfail end\\nread 0 9\\njfail end\\n' > copy.script
   printf 'open /copy w create\\nwrite 1 b0\\n#= count 2\\nlabel end\\n' >> copy.script
@@ -320,11 +345,25 @@ prints at last
   0 1 read fail EIO end differs 0 1 read data 6869 -> read fail EIO
   0 1 read short 0 end differs 0 1 read data 6869 -> read data - expected 0 6 count 2 count 0
   0 1 read short 1 end differs 0 1 read data 6869 -> read data 68 expected 0 6 count 2 count 1
-  cases 4 failed 2";
+  cases 4 failed 2",
+    usage: None,
+    args: &[
+        REPLACED_LOG,
+        ERRORS,
+        SHORT,
+        THEN,
+        CASE,
+        CASE_LOG,
+        JOBS,
+        SCRIPTS,
+        WHY,
+    ],
+};
 
-const MINIMISE_ABOUT: &str = "Reduces failing scripts to what the failure needs";
-
-const MINIMISE_LONG_ABOUT: &str = "Reduces failing scripts to what the failure needs.
+const MINIMISE: Subcommand = Subcommand {
+    name: "minimise",
+    about: "Reduces failing scripts to what the failure needs",
+    long_about: "Reduces failing scripts to what the failure needs.
 
 The scripts run as under detio plain, and some reply must not be as a line #= below its call expects
 (detio plain --help). The first such reply of the least thread is the failure. Lines and threads are
@@ -349,10 +388,8 @@ Exit statuses:
   0  what is left was written
   2  wrong usage
   3  a bad script, expectation or log, or no reply that is not as expected
-  4  a file that cannot be read or written, no memory";
-
-const MINIMISE_AFTER_HELP: &str =
-    "Example: the second thread is late to make a file, and what else both do does not matter.
+  4  a file that cannot be read or written, no memory",
+    after_help: "Example: the second thread is late to make a file, and what else both do does not matter.
   printf 'open /a w create excl\\nwrite 0 x6869\\n' > first.script
   printf 'mkdir /b\\nwork 9\\nopen /a w create excl\\n#= not fail\\n' > late.script
   detio minimise --write less first.script late.script
@@ -364,13 +401,15 @@ and
   cat less/1.script
 prints
   open /a w create excl
-  #= not fail";
+  #= not fail",
+    usage: None,
+    args: &[FOLDER, PATIENCE, DOOR_COST, OUTCOMES, SCRIPTS, WHY],
+};
 
-const RECORD_ABOUT: &str =
-    "Runs 1 to 16 scripts as threads, with host files and loopback TCP, and records what comes from them";
-
-const RECORD_LONG_ABOUT: &str =
-    "Runs 1 to 16 scripts as threads, with host files and loopback TCP, and records what comes from them.
+const RECORD: Subcommand = Subcommand {
+    name: "record",
+    about: "Runs 1 to 16 scripts as threads, with host files and loopback TCP, and records what comes from them",
+    long_about: "Runs 1 to 16 scripts as threads, with host files and loopback TCP, and records what comes from them.
 
 Each script is a thread of its own, from 0 in the order given. They share one table of descriptors, and take
 turns by their logical clocks, as under plain: so whatever the machine does, each turn comes at the same
@@ -421,9 +460,8 @@ Exit statuses:
   1  a reply is not as expected
   2  wrong usage
   3  a bad script or expectation
-  4  a file that cannot be read or written, no memory, a full clock, threads that strayed";
-
-const RECORD_AFTER_HELP: &str = "Example:
+  4  a file that cannot be read or written, no memory, a full clock, threads that strayed",
+    after_help: "Example:
   printf 'host_open out.txt w create\\nwrite 0 x6869\\nclose 0\\n' > hi.script
   detio record --log hi.log hi.script
 
@@ -436,13 +474,32 @@ prints
 and then
   rm out.txt
   detio replay --log hi.log hi.script
-prints the same, and makes no file.";
+prints the same, and makes no file.",
+    usage: None,
+    args: &[
+        RECORDED_LOG,
+        LOG_VERSION,
+        FORCE,
+        WAIT,
+        IN_TURN,
+        FOLLOW,
+        PATIENCE,
+        DOOR_COST,
+        TURNS,
+        CALLS,
+        BY_TURN,
+        LANES,
+        JSON,
+        EXPECT,
+        SCRIPTS,
+        WHY,
+    ],
+};
 
-const REPLAY_ABOUT: &str =
-    "Runs scripts by the log of what came from outside and prints their transcripts";
-
-const REPLAY_LONG_ABOUT: &str =
-    "Runs scripts by the log of what came from outside and prints their transcripts.
+const REPLAY: Subcommand = Subcommand {
+    name: "replay",
+    about: "Runs scripts by the log of what came from outside and prints their transcripts",
+    long_about: "Runs scripts by the log of what came from outside and prints their transcripts.
 
 The scripts run as under plain, with the patience and the door cost of the log's header. No host file is
 opened and nothing is sent: each call that goes outside takes the next record of its thread from the log.
@@ -484,9 +541,8 @@ Exit statuses:
   1  the end of the log, a divergence, or a reply that is not as expected
   2  wrong usage
   3  a bad script, expectation or log
-  4  a file that cannot be read, output that cannot be written, no memory, a full clock, threads that strayed";
-
-const REPLAY_AFTER_HELP: &str = "Example:
+  4  a file that cannot be read, output that cannot be written, no memory, a full clock, threads that strayed",
+    after_help: "Example:
   printf 'host_open nofile r\\nopen /b rw create\\n' > missing.script
   printf 'DIOL\\0\\1\\0\\1\\0\\0\\3\\350\\0\\0\\0\\144' > missing.log
   printf 'R\\0\\0\\0\\0\\0\\0\\1\\12\\0\\0\\0\\0\\0\\0\\0\\0\\0\\0' >> missing.log
@@ -495,13 +551,114 @@ const REPLAY_AFTER_HELP: &str = "Example:
 prints
   0 0 1 host_open fail ENOENT
   0 1 105 open number 0
-  end";
+  end",
+    usage: None,
+    args: &[
+        REPLAYED_LOG,
+        BY_THREADS,
+        TURNS,
+        CALLS,
+        BY_TURN,
+        LANES,
+        JSON,
+        EXPECT,
+        SCRIPTS,
+        WHY,
+    ],
+};
 
-const COMPARE_ABOUT: &str =
-    "Says whether two logs give the threads of the same scripts the same replies";
+const RUN: Subcommand = Subcommand {
+    name: "run",
+    about: "Runs a program as it is, and records what comes to it from outside",
+    long_about: "Runs a program as it is, and records what comes to it from outside.
 
-const COMPARE_LONG_ABOUT: &str =
-    "Says whether two logs give the threads of the same scripts the same replies.
+PROGRAM is any program that is linked dynamically, with its threads by pthreads. It gets ARGS, and runs
+as it would without detio, but that its threads make their calls in the order of turns. What comes from
+outside goes into the log: files of the host, TCP on 127.0.0.1, the time, chance, and names. detio rerun
+runs the program again by that log.
+
+The log is the file of --log, or NAME.detio-log in the working directory, where NAME is the last part of
+PROGRAM. A file at its path is never written over, unless --force is given.
+
+At most as many threads live at once as --threads says. Paths below that of --mem live in the run, in
+memory; without --mem there are none. Paths below one of --pass go to the host and are not recorded, and
+one line on standard error says so. --pass and --env may be given again and again. With --env the program
+has the environment variables of these names alone, and the log keeps no others.
+
+--seed S works before calls and locks, for times that the seed says. So another seed gives another order
+of turns, and the same seed the same. With --fault K the K-th outcome from outside that can fail is EIO.
+
+With --overlap calls outside overlap: their effects on the host may come in another order than the turns.
+With --parallel threads compute at the same time: races on memory without calls are not repeated.
+
+The status is that of the program, or one of these.
+
+Exit statuses:
+  121  deadlock: each thread waits for another
+  125  wrong usage, or a file of detio's own that cannot be read or written
+  126  the program cannot be run
+  127  the program is not found",
+    after_help: "Example: the second line comes from the log
+  detio run --log now.log -- date
+  detio rerun --log now.log
+
+prints the same time twice.",
+    usage: Some("detio run [OPTIONS] -- <PROGRAM> [ARGS]..."),
+    args: &[
+        LOG_OF_RUN,
+        FORCE_OF_RUN,
+        THREADS,
+        MEM,
+        PASS,
+        SEED,
+        FAULT,
+        OVERLAP,
+        PARALLEL,
+        ENV,
+        PROGRAM,
+        WORDS,
+    ],
+};
+
+const RERUN: Subcommand = Subcommand {
+    name: "rerun",
+    about: "Runs a program again by its log",
+    long_about: "Runs a program again by its log.
+
+The program runs as under detio run, in the same order of turns, and reaches nothing outside: what came
+from there comes from the log. Without PROGRAM the log says which program it is, and with which words.
+
+Where the program, its libraries or its words are not those of the log, nothing runs, and one line on
+standard error says what differs. With --force the rerun goes on, and may diverge: then a thread asks for
+something else than the log has there.
+
+The status is that of the program, or one of these.
+
+Exit statuses:
+  120  the rerun diverges
+  121  deadlock: each thread waits for another
+  123  the log ends before the program does
+  124  what is not a log, or a program that is not that of the log
+  125  wrong usage, or a file of detio's own that cannot be read or written
+  126  the program cannot be run
+  127  the program is not found",
+    after_help: "Example: the input is not needed any more
+  printf 'b\\na\\n' > in.txt
+  detio run --log sort.log -- sort in.txt
+  rm in.txt
+  detio rerun --log sort.log
+
+prints twice
+  a
+  b",
+    usage: Some("detio rerun [OPTIONS] --log <FILE> [-- <PROGRAM> [ARGS]...]"),
+    args: &[LOG_TO_RERUN, FORCE_OF_RERUN, PROGRAM, WORDS],
+};
+
+const COMPARE: Subcommand = Subcommand {
+    name: "compare",
+    about: "Says whether two logs give the threads of the same scripts the same replies",
+    long_about: "Says whether two logs give the threads of the same scripts the same replies.
 
 The scripts are replayed by each of the two logs, as detio replay does, and what each thread saw is compared row
 by row: the call, the turn with its clock, and the reply. One line is printed:
@@ -531,9 +688,8 @@ Exit statuses:
   1  differs
   2  wrong usage
   3  a bad script or log
-  4  a file that cannot be read, output that cannot be written, no memory";
-
-const COMPARE_AFTER_HELP: &str = "Example:
+  4  a file that cannot be read, output that cannot be written, no memory",
+    after_help: "Example:
   printf 'host_open notes r\\nopen /b rw create\\n' > open.script
   printf 'DIOL\\0\\1\\0\\1\\0\\0\\3\\350\\0\\0\\0\\144R\\0\\0\\0\\0\\0\\0\\1' > there.log
   cp there.log missing.log
@@ -547,11 +703,15 @@ prints
   > 0 0 1 host_open notes r = fail ENOENT
   < end
   > end
-since the file was there in one run, and not in the other.";
+since the file was there in one run, and not in the other.",
+    usage: None,
+    args: &[ONE_LOG, WITH, ROWS, NO_TURNS, SCRIPTS, WHY],
+};
 
-const DRAW_ABOUT: &str = "Draws a run, or two under each other, as a page for a browser";
-
-const DRAW_LONG_ABOUT: &str = "Draws a run, or two under each other, as a page for a browser.
+const DRAW: Subcommand = Subcommand {
+    name: "draw",
+    about: "Draws a run, or two under each other, as a page for a browser",
+    long_about: "Draws a run, or two under each other, as a page for a browser.
 
 The scripts are run as by detio plain or, with --log, as by detio replay. With --with they are replayed by a
 second log too, and the second run is drawn under the first. How a run came to its end changes no status: a
@@ -581,20 +741,25 @@ Exit statuses:
   0  the files were written
   2  wrong usage
   3  a bad script or log
-  4  a file that cannot be read or written, no memory";
-
-const DRAW_AFTER_HELP: &str = "Example: a read of a pipe that waits for another thread to write
+  4  a file that cannot be read or written, no memory",
+    after_help: "Example: a read of a pipe that waits for another thread to write
   printf 'pipe\\nwork 20\\nwrite 1 x7a\\n' > writer.script
   printf 'work 2\\nread 0 1\\n' > reader.script
   detio draw --out run.html --trace run.json writer.script reader.script
 
 prints
   run.html
-  run.json";
+  run.json",
+    usage: None,
+    args: &[
+        PAGE, TRACE, DRAWN_LOG, SECOND_LOG, PATIENCE, DOOR_COST, SCRIPTS, WHY,
+    ],
+};
 
-const SHOW_ABOUT: &str = "Prints a log";
-
-const SHOW_LONG_ABOUT: &str = "Prints a log.
+const SHOW: Subcommand = Subcommand {
+    name: "show",
+    about: "Prints a log",
+    long_about: "Prints a log.
 
 The first line says which version the log has, and what it was written under. A line for each record
 follows, in order: thread, number among the records of that thread, in a log of version 2 the clock of the
@@ -619,19 +784,22 @@ Exit statuses:
   0  the log was printed
   2  wrong usage
   3  a bad log
-  4  a file that cannot be read, output that cannot be written, no memory";
-
-const SHOW_AFTER_HELP: &str = "Example:
+  4  a file that cannot be read, output that cannot be written, no memory",
+    after_help: "Example:
   printf 'DIOL\\0\\1\\0\\1\\0\\0\\3\\350\\0\\0\\0\\144E\\0\\0\\0\\0' > empty.log
   detio show --log empty.log
 
 prints
   version 1 threads 1 patience 1000 door cost 100
-  end 0";
+  end 0",
+    usage: None,
+    args: &[SHOWN_LOG, JSON, WHY],
+};
 
-const MAKE_ABOUT: &str = "Makes a log of the text that detio show prints of it";
-
-const MAKE_LONG_ABOUT: &str = "Makes a log of the text that detio show prints of it.
+const MAKE: Subcommand = Subcommand {
+    name: "make",
+    about: "Makes a log of the text that detio show prints of it",
+    long_about: "Makes a log of the text that detio show prints of it.
 
 The text is what detio show prints, which detio show --help describes. So any log can be printed,
 changed in an editor, and made again: another outcome, a failure in place of a success, a record
@@ -655,9 +823,8 @@ Exit statuses:
   0  the log was written
   2  wrong usage
   3  a text that is not that of a log
-  4  a file that cannot be read or written, no memory";
-
-const MAKE_AFTER_HELP: &str = "Example: a read that fails in place of one that brings two bytes
+  4  a file that cannot be read or written, no memory",
+    after_help: "Example: a read that fails in place of one that brings two bytes
   printf hi > in.txt
   printf 'host_open in.txt r\\nread 0 9\\n' > look.script
   detio record --log look.log look.script
@@ -667,13 +834,15 @@ const MAKE_AFTER_HELP: &str = "Example: a read that fails in place of one that b
 prints at last
   0 0 host_open number 0
   0 1 read fail EIO
-  end";
+  end",
+    usage: None,
+    args: &[MADE_LOG, FORCE, TEXT, WHY],
+};
 
-const UPGRADE_ABOUT: &str =
-    "Writes a log of version 1 in version 2, with the clocks that its scripts give it";
-
-const UPGRADE_LONG_ABOUT: &str =
-    "Writes a log of version 1 in version 2, with the clocks that its scripts give it.
+const UPGRADE: Subcommand = Subcommand {
+    name: "upgrade",
+    about: "Writes a log of version 1 in version 2, with the clocks that its scripts give it",
+    long_about: "Writes a log of version 1 in version 2, with the clocks that its scripts give it.
 
 A record of version 1 does not say at which turn its outcome came. The scripts that were recorded tell it: they are
 replayed by the log, as detio replay does, and each record gets the clock of the turn that took it. The new log has
@@ -705,9 +874,8 @@ Exit statuses:
   1  records were left at the end of the log, or the replay diverged
   2  wrong usage
   3  a bad script or log
-  4  a file that cannot be read or written, no memory, a full clock";
-
-const UPGRADE_AFTER_HELP: &str = "Example:
+  4  a file that cannot be read or written, no memory, a full clock",
+    after_help: "Example:
   printf 'host_open nofile r\\nhost_open nofile r\\n' > missing.script
   detio record --log old.log --log-version 1 missing.script
   detio upgrade --log old.log --out new.log missing.script
@@ -717,73 +885,565 @@ prints at last
   version 2 threads 1 patience 1000 door cost 100
   0 0 1 open fail ENOENT
   0 1 105 open fail ENOENT
-  end 2";
+  end 2",
+    usage: None,
+    args: &[OLD_LOG, NEW_LOG, FORCE_OF_UPGRADE, SCRIPTS, WHY],
+};
+
+// An argument of a subcommand: its name, what its help says, and its rules.
+#[derive(Clone, Copy)]
+struct Argument {
+    id: &'static str,
+    help: &'static str,
+    rules: &'static [Rule],
+}
+
+// What an argument is, and what it may be.
+#[derive(Clone, Copy)]
+enum Rule {
+    // an option that is there or not
+    Flag,
+    // an option with a value, which its help calls so
+    Named(&'static str),
+    // an option with three values, which its help calls so
+    Three(&'static [&'static str]),
+    // no option but a word at its place, which its help calls so
+    Place(&'static str),
+    // any number of words
+    Many,
+    // an option that may be given again and again
+    Repeated,
+    Required,
+    // one that is required where this other one is not given
+    RequiredWithout(&'static str),
+    // what it is where it is not given
+    Default(&'static str),
+    // what it is where it is given without a value
+    Without(&'static str),
+    // a number of 32 bits, of 16 bits or of a machine's word, from the first to the second
+    Whole(i64, i64),
+    Short(i64, i64),
+    Count(i64, i64),
+    // any number of 64 bits
+    Long,
+    // one of these words
+    Among(&'static [&'static str]),
+    // one that goes with this other one alone
+    Needs(&'static str),
+    // one that does not go with this other one
+    Excludes(&'static str),
+}
+
+const SCRIPTS_TO_CHECK: Argument = Argument {
+    id: "script",
+    help: "The scripts to check, 1 to 16",
+    rules: &[Rule::Place("SCRIPT"), Rule::Many],
+};
+
+const SCRIPTS: Argument = Argument {
+    id: "script",
+    help: "The scripts to run, 1 to 16; - is standard input",
+    rules: &[Rule::Place("SCRIPT"), Rule::Many],
+};
+
+const WHY: Argument = Argument {
+    id: "why",
+    help: "Adds after a fault why the host refused, or why a run stopped",
+    rules: &[Rule::Flag],
+};
+
+const PATIENCE: Argument = Argument {
+    id: "patience",
+    help: "For how many turns a call may be blocked",
+    rules: &[
+        Rule::Named("N"),
+        Rule::Whole(1, 1_000_000),
+        Rule::Default("1000"),
+    ],
+};
+
+const DOOR_COST: Argument = Argument {
+    id: "door-cost",
+    help: "What a call that goes outside adds to the clock of its thread",
+    rules: &[
+        Rule::Named("N"),
+        Rule::Whole(1, 1_000_000),
+        Rule::Default("100"),
+    ],
+};
+
+const TURNS: Argument = Argument {
+    id: "turns",
+    help: "Prints the clock of each turn",
+    rules: &[Rule::Flag],
+};
+
+const CALLS: Argument = Argument {
+    id: "calls",
+    help: "Prints each call with what it was asked, as read 3 9 = data 6869",
+    rules: &[Rule::Flag],
+};
+
+const BY_TURN: Argument = Argument {
+    id: "by-turn",
+    help: "Prints the rows of all threads in the order of their turns",
+    rules: &[Rule::Flag],
+};
+
+const LANES: Argument = Argument {
+    id: "lanes",
+    help: "Prints the rows in the order of their turns, with a column for each thread",
+    rules: &[Rule::Flag],
+};
+
+const JSON: Argument = Argument {
+    id: "json",
+    help: "Prints an object of JSON on each line",
+    rules: &[Rule::Flag],
+};
+
+const EXPECT: Argument = Argument {
+    id: "expect",
+    help: "Holds each reply to the lines #= below its call, as #= fail ENOENT",
+    rules: &[Rule::Flag],
+};
+
+const SEEDS: Argument = Argument {
+    id: "seeds",
+    help: "The first seed, and the one after the last",
+    rules: &[Rule::Named("A..B"), Rule::Default("0..1000")],
+};
+
+const DELAYS: Argument = Argument {
+    id: "delays",
+    help: "All lists of at most D delays in place of seeds, 1 or 2",
+    rules: &[
+        Rule::Named("D"),
+        Rule::Whole(1, 2),
+        Rule::Without("1"),
+        Rule::Excludes("seeds"),
+    ],
+};
+
+const MOST: Argument = Argument {
+    id: "most",
+    help: "How many lists are run at most, with --delays",
+    rules: &[
+        Rule::Named("N"),
+        Rule::Long,
+        Rule::Default("100000"),
+        Rule::Needs("delays"),
+        Rule::Excludes("only"),
+    ],
+};
+
+const ONLY: Argument = Argument {
+    id: "only",
+    help: "This seed alone, or the list with this number",
+    rules: &[Rule::Named("CASE"), Rule::Long, Rule::Excludes("seeds")],
+};
+
+const REACH: Argument = Argument {
+    id: "reach",
+    help: "The longest delay of a call, in units of its thread's clock",
+    rules: &[
+        Rule::Named("N"),
+        Rule::Whole(0, 1_000_000),
+        Rule::Default("20"),
+    ],
+};
+
+const JOBS: Argument = Argument {
+    id: "jobs",
+    help: "In how many threads runs are made, 1 to 64",
+    rules: &[Rule::Named("N"), Rule::Count(1, 64), Rule::Default("1")],
+};
+
+const WRITE: Argument = Argument {
+    id: "write",
+    help: "Writes the scripts of that case to new files DIR/0.script, DIR/1.script and so on",
+    rules: &[Rule::Named("DIR"), Rule::Needs("only")],
+};
+
+const OUTCOMES: Argument = Argument {
+    id: "log",
+    help: "The log whose outcomes the calls that go outside take; - is standard input",
+    rules: &[
+        Rule::Named("FILE"),
+        Rule::Excludes("patience"),
+        Rule::Excludes("door-cost"),
+    ],
+};
+
+const REPLACED_LOG: Argument = Argument {
+    id: "log",
+    help: "The log whose outcomes are replaced; - is standard input",
+    rules: &[Rule::Named("FILE"), Rule::Required],
+};
+
+const ERRORS: Argument = Argument {
+    id: "errors",
+    help: "These errors, for each record, as EIO,ENOENT",
+    rules: &[Rule::Named("E,E..")],
+};
+
+const SHORT: Argument = Argument {
+    id: "short",
+    help: "Also fewer bytes of reads and writes",
+    rules: &[Rule::Flag],
+};
+
+const THEN: Argument = Argument {
+    id: "then",
+    help: "What comes where the log does not answer",
+    rules: &[
+        Rule::Named("WHAT"),
+        Rule::Among(&["stop", "fail", "well"]),
+        Rule::Default("stop"),
+    ],
+};
+
+const CASE: Argument = Argument {
+    id: "only",
+    help: "The outcome to replace, and the error or count in its place, for --out",
+    rules: &[
+        Rule::Three(&["THREAD", "NUMBER", "ERROR"]),
+        Rule::Excludes("errors"),
+        Rule::Excludes("short"),
+        Rule::Needs("out"),
+    ],
+};
+
+const CASE_LOG: Argument = Argument {
+    id: "out",
+    help: "Writes the log of that case to this new file",
+    rules: &[Rule::Named("FILE"), Rule::Needs("only")],
+};
+
+const FOLDER: Argument = Argument {
+    id: "write",
+    help: "Writes what is left to new files DIR/0.script, DIR/1.script and so on",
+    rules: &[Rule::Named("DIR"), Rule::Required],
+};
+
+const RECORDED_LOG: Argument = Argument {
+    id: "log",
+    help: "The log to write",
+    rules: &[Rule::Named("FILE"), Rule::Required],
+};
+
+const LOG_VERSION: Argument = Argument {
+    id: "log-version",
+    help: "The version of the log, 1 or 2: version 2 has the clocks of turns",
+    rules: &[Rule::Named("N"), Rule::Short(1, 2), Rule::Default("2")],
+};
+
+const FORCE: Argument = Argument {
+    id: "force",
+    help: "Replaces a file at the log's path that is not a log",
+    rules: &[Rule::Flag],
+};
+
+const WAIT: Argument = Argument {
+    id: "wait",
+    help: "How long a call waits for a peer before others get a turn",
+    rules: &[
+        Rule::Named("MS"),
+        Rule::Whole(0, 60_000),
+        Rule::Default("10"),
+    ],
+};
+
+const IN_TURN: Argument = Argument {
+    id: "in-turn",
+    help: "Makes the calls to the outside in the order of their turns",
+    rules: &[Rule::Flag],
+};
+
+const FOLLOW: Argument = Argument {
+    id: "follow",
+    help: "Prints each row on standard error too, once its call has a reply",
+    rules: &[Rule::Flag],
+};
+
+const REPLAYED_LOG: Argument = Argument {
+    id: "log",
+    help: "The log to replay; - is standard input",
+    rules: &[Rule::Named("FILE"), Rule::Required],
+};
+
+const BY_THREADS: Argument = Argument {
+    id: "threads",
+    help: "Runs each script in a thread of its own",
+    rules: &[Rule::Flag],
+};
+
+const LOG_OF_RUN: Argument = Argument {
+    id: "log",
+    help: "The log to write (default: NAME.detio-log, NAME being the last part of PROGRAM)",
+    rules: &[Rule::Named("FILE")],
+};
+
+const FORCE_OF_RUN: Argument = Argument {
+    id: "force",
+    help: "Replaces a file at the log's path",
+    rules: &[Rule::Flag],
+};
+
+const THREADS: Argument = Argument {
+    id: "threads",
+    help: "How many threads may live at once, 1 to 16",
+    rules: &[Rule::Named("N"), Rule::Whole(1, 16), Rule::Default("16")],
+};
+
+const MEM: Argument = Argument {
+    id: "mem",
+    help: "Paths below it live in the run, in memory",
+    rules: &[Rule::Named("PREFIX")],
+};
+
+const PASS: Argument = Argument {
+    id: "pass",
+    help: "Paths below it go to the host and are not recorded",
+    rules: &[Rule::Named("PREFIX"), Rule::Repeated],
+};
+
+const SEED: Argument = Argument {
+    id: "seed",
+    help: "Works before calls and locks, for times that the seed says",
+    rules: &[Rule::Named("S"), Rule::Long],
+};
+
+const FAULT: Argument = Argument {
+    id: "fault",
+    help: "The K-th outcome from outside that can fail is EIO",
+    rules: &[Rule::Named("K"), Rule::Long],
+};
+
+const OVERLAP: Argument = Argument {
+    id: "overlap",
+    help: "Lets calls to the outside overlap",
+    rules: &[Rule::Flag],
+};
+
+const PARALLEL: Argument = Argument {
+    id: "parallel",
+    help: "Lets threads compute at the same time",
+    rules: &[Rule::Flag],
+};
+
+const ENV: Argument = Argument {
+    id: "env",
+    help: "An environment variable that the program has; it has no others then",
+    rules: &[Rule::Named("NAME"), Rule::Repeated],
+};
+
+// It is not required, nor is the log of a rerun: the launcher reads these words, and this program answers all alike.
+const PROGRAM: Argument = Argument {
+    id: "program",
+    help: "The program, by its path or its name",
+    rules: &[Rule::Place("PROGRAM")],
+};
+
+const WORDS: Argument = Argument {
+    id: "words",
+    help: "The words that the program is given",
+    rules: &[Rule::Place("ARGS"), Rule::Many],
+};
+
+const LOG_TO_RERUN: Argument = Argument {
+    id: "log",
+    help: "The log to run the program by",
+    rules: &[Rule::Named("FILE")],
+};
+
+const FORCE_OF_RERUN: Argument = Argument {
+    id: "force",
+    help: "Goes on where the program, its libraries or its words differ from the log's",
+    rules: &[Rule::Flag],
+};
+
+const ONE_LOG: Argument = Argument {
+    id: "log",
+    help: "One log to replay; - is standard input",
+    rules: &[Rule::Named("FILE"), Rule::Required],
+};
+
+const WITH: Argument = Argument {
+    id: "with",
+    help: "The log to compare it with",
+    rules: &[Rule::Named("FILE"), Rule::Required],
+};
+
+const ROWS: Argument = Argument {
+    id: "rows",
+    help: "Prints the rows that differ, those before, and how each replay ended",
+    rules: &[Rule::Flag],
+};
+
+const NO_TURNS: Argument = Argument {
+    id: "no-turns",
+    help: "Compares calls and replies alone, whatever the clocks of their turns",
+    rules: &[Rule::Flag],
+};
+
+const PAGE: Argument = Argument {
+    id: "out",
+    help: "The page to write, a new file",
+    rules: &[Rule::Named("FILE"), Rule::RequiredWithout("trace")],
+};
+
+const TRACE: Argument = Argument {
+    id: "trace",
+    help: "The trace of the first run to write, a new file",
+    rules: &[Rule::Named("FILE")],
+};
+
+const DRAWN_LOG: Argument = Argument {
+    id: "log",
+    help: "The log to replay; - is standard input",
+    rules: &[
+        Rule::Named("FILE"),
+        Rule::Excludes("patience"),
+        Rule::Excludes("door-cost"),
+    ],
+};
+
+const SECOND_LOG: Argument = Argument {
+    id: "with",
+    help: "A second log, whose replay is drawn under that of the first",
+    rules: &[Rule::Named("FILE"), Rule::Needs("log")],
+};
+
+const SHOWN_LOG: Argument = Argument {
+    id: "log",
+    help: "The log to print; - is standard input",
+    rules: &[Rule::Named("FILE"), Rule::Required],
+};
+
+const MADE_LOG: Argument = Argument {
+    id: "out",
+    help: "The log to write",
+    rules: &[Rule::Named("FILE"), Rule::Required],
+};
+
+const TEXT: Argument = Argument {
+    id: "text",
+    help: "The text of the log; - is standard input too",
+    rules: &[Rule::Place("TEXT"), Rule::Default("/dev/stdin")],
+};
+
+const OLD_LOG: Argument = Argument {
+    id: "log",
+    help: "The log of version 1; - is standard input",
+    rules: &[Rule::Named("FILE"), Rule::Required],
+};
+
+const NEW_LOG: Argument = Argument {
+    id: "out",
+    help: "The log of version 2 to write",
+    rules: &[Rule::Named("FILE"), Rule::Required],
+};
+
+const FORCE_OF_UPGRADE: Argument = Argument {
+    id: "force",
+    help: "Replaces a file at the new log's path that is not a log",
+    rules: &[Rule::Flag],
+};
 
 /// The command line of the program.
 pub fn command<'a>(alloc: Global) -> Result<Command<'a>, AllocError>
     ensures { IfOk result (λ c. subcommand_names c ≡ all_names) }
 {
     let command = with_runs(alloc, program(alloc)?)?;
-    let command = with_logged_runs(alloc, command)?;
+    let command = with_schedules(alloc, command)?;
+    let command = with_failures(alloc, command)?;
+    let command = with_records(alloc, command)?;
+    let command = with_replays(alloc, command)?;
+    let command = with_programs(alloc, command)?;
+    let command = with_pictures(alloc, command)?;
     with_logs(alloc, command)
 }
 
-// The program with the subcommands that take scripts alone, or outcomes of a log.
+// The subcommands stand in small tables, since the proof of a function that names a large one is dear.
+const RUNS: &[Subcommand] = &[CHECK, PLAIN];
+
+// The program with the subcommands that look at scripts, or run them by themselves.
 fn with_runs<'a>(alloc: Global, command: Command<'a>) -> Result<Command<'a>, AllocError>
-    requires { subcommand_names command ≡ [] }
-    ensures { IfOk result (λ c. subcommand_names c ≡ take 5 all_names) }
+    ensures { IfOk result (λ c. subcommand_names c ≡ subcommand_names command.entry
+        ++ codes "check" ∷ codes "plain" ∷ []) }
 {
-    let command = with_subcommand(alloc, command, check(alloc)?)?;
-    let command = with_subcommand(alloc, command, plain(alloc)?)?;
-    let command = with_subcommand(alloc, command, explore(alloc)?)?;
-    let command = with_subcommand(alloc, command, faults(alloc)?)?;
-    with_subcommand(alloc, command, minimise(alloc)?)
+    with_subcommands(alloc, command, RUNS)
 }
 
-// And with those that run scripts with a log.
-fn with_logged_runs<'a>(alloc: Global, command: Command<'a>) -> Result<Command<'a>, AllocError>
-    requires { subcommand_names command ≡ take 5 all_names }
-    ensures { IfOk result (λ c. subcommand_names c ≡ take 9 all_names) }
+const SCHEDULES: &[Subcommand] = &[EXPLORE];
+
+// And with the one that runs scripts in many schedules.
+fn with_schedules<'a>(alloc: Global, command: Command<'a>) -> Result<Command<'a>, AllocError>
+    ensures { IfOk result (λ c. subcommand_names c ≡ subcommand_names command.entry
+        ++ codes "explore" ∷ []) }
 {
-    let command = with_subcommand(alloc, command, record(alloc)?)?;
-    let command = with_subcommand(alloc, command, replay(alloc)?)?;
-    let command = with_subcommand(alloc, command, compare(alloc)?)?;
-    with_subcommand(alloc, command, draw(alloc)?)
+    with_subcommands(alloc, command, SCHEDULES)
 }
+
+const FAILURES: &[Subcommand] = &[FAULTS, MINIMISE];
+
+// And with those that make failures, or reduce the scripts of one.
+fn with_failures<'a>(alloc: Global, command: Command<'a>) -> Result<Command<'a>, AllocError>
+    ensures { IfOk result (λ c. subcommand_names c ≡ subcommand_names command.entry
+        ++ codes "faults" ∷ codes "minimise" ∷ []) }
+{
+    with_subcommands(alloc, command, FAILURES)
+}
+
+const RECORDS: &[Subcommand] = &[RECORD];
+
+// And with the one that records what comes from outside.
+fn with_records<'a>(alloc: Global, command: Command<'a>) -> Result<Command<'a>, AllocError>
+    ensures { IfOk result (λ c. subcommand_names c ≡ subcommand_names command.entry
+        ++ codes "record" ∷ []) }
+{
+    with_subcommands(alloc, command, RECORDS)
+}
+
+const REPLAYS: &[Subcommand] = &[REPLAY];
+
+// And with the one that replays what was recorded.
+fn with_replays<'a>(alloc: Global, command: Command<'a>) -> Result<Command<'a>, AllocError>
+    ensures { IfOk result (λ c. subcommand_names c ≡ subcommand_names command.entry
+        ++ codes "replay" ∷ []) }
+{
+    with_subcommands(alloc, command, REPLAYS)
+}
+
+const PROGRAMS: &[Subcommand] = &[RUN, RERUN];
+
+// And with those that record and replay a program as it is.
+fn with_programs<'a>(alloc: Global, command: Command<'a>) -> Result<Command<'a>, AllocError>
+    ensures { IfOk result (λ c. subcommand_names c ≡ subcommand_names command.entry
+        ++ codes "run" ∷ codes "rerun" ∷ []) }
+{
+    with_subcommands(alloc, command, PROGRAMS)
+}
+
+const PICTURES: &[Subcommand] = &[COMPARE, DRAW];
+
+// And with those that show what the threads of runs saw.
+fn with_pictures<'a>(alloc: Global, command: Command<'a>) -> Result<Command<'a>, AllocError>
+    ensures { IfOk result (λ c. subcommand_names c ≡ subcommand_names command.entry
+        ++ codes "compare" ∷ codes "draw" ∷ []) }
+{
+    with_subcommands(alloc, command, PICTURES)
+}
+
+const LOGS: &[Subcommand] = &[SHOW, MAKE, UPGRADE];
 
 // And with those that turn a log into something else.
-#[tactic(auto, using(crate::proofs::Named::next))]
 fn with_logs<'a>(alloc: Global, command: Command<'a>) -> Result<Command<'a>, AllocError>
-    requires { subcommand_names command ≡ take 9 all_names }
-    ensures { IfOk result (λ c. subcommand_names c ≡ all_names) }
+    ensures { IfOk result (λ c. subcommand_names c ≡ subcommand_names command.entry
+        ++ codes "show" ∷ codes "make" ∷ codes "upgrade" ∷ []) }
 {
-    let command = with_subcommand(alloc, command, show(alloc)?)?;
-    let command = with_subcommand(alloc, command, make(alloc)?)?;
-    with_subcommand(alloc, command, upgrade(alloc)?)
-}
-
-// The program with one more subcommand, which may say why the host refused something.
-#[tactic(auto, using(crate::proofs::Named::one_more))]
-fn with_subcommand<'a>(
-    alloc: Global,
-    command: Command<'a>,
-    subcommand: Command<'a>,
-) -> Result<Command<'a>, AllocError>
-    ensures { IfOk result (λ c. subcommand_names c
-        ≡ subcommand_names command.entry ++ name_of subcommand.entry ∷ []) }
-{
-    command.subcommand(with_why(alloc, subcommand)?)
-}
-
-// A subcommand that may say why the host refused something.
-fn with_why<'a>(alloc: Global, command: Command<'a>) -> Result<Command<'a>, AllocError>
-    ensures { IfOk result (λ c. name_of c ≡ name_of command.entry) }
-{
-    let why = Arg::new(alloc, "why")
-        .long("why")
-        .action(ArgAction::SetTrue)
-        .help("Adds after a fault why the host refused, or why a run stopped");
-    command.arg(why)
+    with_subcommands(alloc, command, LOGS)
 }
 
 // The program with no subcommand.
@@ -805,519 +1465,103 @@ fn wants_subcommand(command: Command<'_>) -> Command<'_>
         .arg_required_else_help(true)
 }
 
-// A subcommand with its help and no argument.
-fn described<'a>(
+// The command with these subcommands.
+fn with_subcommands<'a>(
     alloc: Global,
-    name: &'a str,
-    about: &'a str,
-    long_about: &'a str,
-    after_help: &'a str,
-) -> Command<'a>
-    ensures { name_of result ≡ name.entry.now }
+    command: Command<'a>,
+    subcommands: &[Subcommand],
+) -> Result<Command<'a>, AllocError>
+    ensures { IfOk result (λ c. subcommand_names c
+        ≡ subcommand_names command.entry ++ map (λ s. s.name.now) subcommands.now) }
 {
-    Command::new(alloc, name)
-        .about(about)
-        .long_about(long_about)
-        .after_help(after_help)
+    let mut command = command;
+    for subcommand in subcommands {
+        command = with_subcommand(command, built(alloc, *subcommand)?)?;
+    }
+    Ok(command)
 }
 
-fn check<'a>(alloc: Global) -> Result<Command<'a>, AllocError>
-    ensures { IfOk result (λ c. name_of c ≡ codes "check") }
+// The command with one more subcommand.
+#[tactic(auto, using(crate::proofs::Named::one_more))]
+fn with_subcommand<'a>(
+    command: Command<'a>,
+    subcommand: Command<'a>,
+) -> Result<Command<'a>, AllocError>
+    ensures { IfOk result (λ c. subcommand_names c
+        ≡ subcommand_names command.entry ++ name_of subcommand.entry ∷ []) }
 {
-    let scripts = scripts(alloc).help("The scripts to check, 1 to 16");
-    described(
-        alloc,
-        "check",
-        CHECK_ABOUT,
-        CHECK_LONG_ABOUT,
-        CHECK_AFTER_HELP,
-    )
-    .arg(scripts)
+    command.subcommand(subcommand)
 }
 
-fn plain<'a>(alloc: Global) -> Result<Command<'a>, AllocError>
-    ensures { IfOk result (λ c. name_of c ≡ codes "plain") }
+fn built<'a>(alloc: Global, given: Subcommand) -> Result<Command<'a>, AllocError>
+    ensures { IfOk result (λ c. name_of c ≡ given.name.now) }
 {
-    let patience = patience(alloc);
-    let command = described(
-        alloc,
-        "plain",
-        PLAIN_ABOUT,
-        PLAIN_LONG_ABOUT,
-        PLAIN_AFTER_HELP,
-    );
-    with_door_cost(alloc, command.arg(patience)?)
+    let args = args_of(alloc, given.args)?;
+    with_args(with_usage(described(alloc, given), given.usage), args)
 }
 
-fn patience<'a>(alloc: Global) -> Arg<'a> {
-    number(
-        alloc,
-        "patience",
-        "1000",
-        "For how many turns a call may be blocked",
-    )
+// A subcommand with its help and no argument.
+fn described<'a>(alloc: Global, given: Subcommand) -> Command<'a>
+    ensures { name_of result ≡ given.name.now }
+{
+    Command::new(alloc, given.name)
+        .about(given.about)
+        .long_about(given.long_about)
+        .after_help(given.after_help)
 }
 
-fn with_door_cost<'a>(alloc: Global, command: Command<'a>) -> Result<Command<'a>, AllocError>
+fn with_usage<'a>(command: Command<'a>, usage: Option<&'static str>) -> Command<'a>
+    ensures { name_of result ≡ name_of command.entry }
+{
+    match usage {
+        Some(usage) => command.override_usage(usage),
+        None => command,
+    }
+}
+
+// The command with these arguments.
+#[tactic(auto, using(crate::proofs::Named::kept_in_turn))]
+fn with_args<'a>(command: Command<'a>, args: Vec<Arg<'a>>) -> Result<Command<'a>, AllocError>
     ensures { IfOk result (λ c. name_of c ≡ name_of command.entry) }
 {
-    with_scripts(alloc, command.arg(door_cost(alloc))?)
+    command.args(args)
 }
 
-fn door_cost<'a>(alloc: Global) -> Arg<'a> {
-    number(
-        alloc,
-        "door-cost",
-        "100",
-        "What a call that goes outside adds to the clock of its thread",
-    )
+fn args_of<'a>(alloc: Global, arguments: &[Argument]) -> Result<Vec<Arg<'a>>, AllocError> {
+    let mut args = Vec::new(alloc);
+    for argument in arguments {
+        args.push(arg_of(alloc, *argument)?)?;
+    }
+    Ok(args)
 }
 
-fn explore<'a>(alloc: Global) -> Result<Command<'a>, AllocError>
-    ensures { IfOk result (λ c. name_of c ≡ codes "explore") }
-{
-    let command = described(
-        alloc,
-        "explore",
-        EXPLORE_ABOUT,
-        EXPLORE_LONG_ABOUT,
-        EXPLORE_AFTER_HELP,
-    );
-    let command = command.arg(seeds(alloc))?.arg(delays(alloc)?)?;
-    let command = command.arg(most(alloc)?)?.arg(only(alloc)?)?;
-    let command = command.arg(reach(alloc))?.arg(jobs(alloc))?;
-    let command = command.arg(write(alloc)?)?;
-    let command = command.arg(patience(alloc))?.arg(door_cost(alloc))?;
-    command.arg(outcomes(alloc)?)?.arg(scripts(alloc))
+fn arg_of<'a>(alloc: Global, argument: Argument) -> Result<Arg<'a>, AllocError> {
+    let mut arg = Arg::new(alloc, argument.id).help(argument.help);
+    for rule in argument.rules {
+        arg = ruled(arg, argument.id, *rule)?;
+    }
+    Ok(arg)
 }
 
-fn outcomes<'a>(alloc: Global) -> Result<Arg<'a>, AllocError> {
-    by_log(
-        alloc,
-        "The log whose outcomes the calls that go outside take; - is standard input",
-    )
-}
-
-// An option for a log, whose settings are those of the run.
-fn by_log<'a>(alloc: Global, help: &'a str) -> Result<Arg<'a>, AllocError> {
-    Arg::new(alloc, "log")
-        .long("log")
-        .value_name("FILE")
-        .help(help)
-        .conflicts_with("patience")?
-        .conflicts_with("door-cost")
-}
-
-fn seeds<'a>(alloc: Global) -> Arg<'a> {
-    Arg::new(alloc, "seeds")
-        .long("seeds")
-        .value_name("A..B")
-        .default_value("0..1000")
-        .help("The first seed, and the one after the last")
-}
-
-fn delays<'a>(alloc: Global) -> Result<Arg<'a>, AllocError> {
-    Arg::new(alloc, "delays")
-        .long("delays")
-        .value_name("D")
-        .value_parser(value_parser!(u32).range(1..=2))
-        .num_args(0..=1)
-        .default_missing_value("1")
-        .help("All lists of at most D delays in place of seeds, 1 or 2")
-        .conflicts_with("seeds")
-}
-
-fn most<'a>(alloc: Global) -> Result<Arg<'a>, AllocError> {
-    Arg::new(alloc, "most")
-        .long("most")
-        .value_name("N")
-        .value_parser(value_parser!(u64))
-        .default_value("100000")
-        .help("How many lists are run at most, with --delays")
-        .requires_arg("delays")?
-        .conflicts_with("only")
-}
-
-fn only<'a>(alloc: Global) -> Result<Arg<'a>, AllocError> {
-    Arg::new(alloc, "only")
-        .long("only")
-        .value_name("CASE")
-        .value_parser(value_parser!(u64))
-        .help("This seed alone, or the list with this number")
-        .conflicts_with("seeds")
-}
-
-fn write<'a>(alloc: Global) -> Result<Arg<'a>, AllocError> {
-    Arg::new(alloc, "write")
-        .long("write")
-        .value_name("DIR")
-        .help("Writes the scripts of that case to new files DIR/0.script, DIR/1.script and so on")
-        .requires_arg("only")
-}
-
-fn jobs<'a>(alloc: Global) -> Arg<'a> {
-    Arg::new(alloc, "jobs")
-        .long("jobs")
-        .value_name("N")
-        .value_parser(value_parser!(usize).range(1..=64))
-        .default_value("1")
-        .help("In how many threads runs are made, 1 to 64")
-}
-
-fn reach<'a>(alloc: Global) -> Arg<'a> {
-    Arg::new(alloc, "reach")
-        .long("reach")
-        .value_name("N")
-        .value_parser(value_parser!(u32).range(0..=1_000_000))
-        .default_value("20")
-        .help("The longest delay of a call, in units of its thread's clock")
-}
-
-fn faults<'a>(alloc: Global) -> Result<Command<'a>, AllocError>
-    ensures { IfOk result (λ c. name_of c ≡ codes "faults") }
-{
-    let log = log(
-        alloc,
-        "The log whose outcomes are replaced; - is standard input",
-    );
-    let command = described(
-        alloc,
-        "faults",
-        FAULTS_ABOUT,
-        FAULTS_LONG_ABOUT,
-        FAULTS_AFTER_HELP,
-    );
-    let command = command.arg(log)?.arg(errors(alloc))?;
-    let command = command.arg(short(alloc))?.arg(then(alloc)?)?;
-    let command = with_one_case(alloc, command)?;
-    command.arg(jobs(alloc))?.arg(scripts(alloc))
-}
-
-fn minimise<'a>(alloc: Global) -> Result<Command<'a>, AllocError>
-    ensures { IfOk result (λ c. name_of c ≡ codes "minimise") }
-{
-    let command = described(
-        alloc,
-        "minimise",
-        MINIMISE_ABOUT,
-        MINIMISE_LONG_ABOUT,
-        MINIMISE_AFTER_HELP,
-    );
-    let folder = Arg::new(alloc, "write")
-        .long("write")
-        .value_name("DIR")
-        .required(true)
-        .help("Writes what is left to new files DIR/0.script, DIR/1.script and so on");
-    let command = command.arg(folder)?;
-    let command = command.arg(patience(alloc))?.arg(door_cost(alloc))?;
-    command.arg(outcomes(alloc)?)?.arg(scripts(alloc))
-}
-
-const CASE: &[&str] = &["THREAD", "NUMBER", "ERROR"];
-
-// One case, and where its log goes: both, or neither.
-fn with_one_case<'a>(alloc: Global, command: Command<'a>) -> Result<Command<'a>, AllocError>
-    ensures { IfOk result (λ c. name_of c ≡ name_of command.entry) }
-{
-    let only = Arg::new(alloc, "only")
-        .long("only")
-        .num_args(3)
-        .value_names(CASE)
-        .help("The outcome to replace, and the error or count in its place, for --out")
-        .conflicts_with("errors")?
-        .conflicts_with("short")?
-        .requires_arg("out")?;
-    let out = Arg::new(alloc, "out")
-        .long("out")
-        .value_name("FILE")
-        .help("Writes the log of that case to this new file")
-        .requires_arg("only")?;
-    command.arg(only)?.arg(out)
-}
-
-fn errors<'a>(alloc: Global) -> Arg<'a> {
-    Arg::new(alloc, "errors")
-        .long("errors")
-        .value_name("E,E..")
-        .help("These errors, for each record, as EIO,ENOENT")
-}
-
-fn short<'a>(alloc: Global) -> Arg<'a> {
-    Arg::new(alloc, "short")
-        .long("short")
-        .action(ArgAction::SetTrue)
-        .help("Also fewer bytes of reads and writes")
-}
-
-fn then<'a>(alloc: Global) -> Result<Arg<'a>, AllocError> {
-    Ok(
-        Arg::new(alloc, "then")
-            .long("then")
-            .value_name("WHAT")
-            .value_parser(["stop", "fail", "well"].as_slice())
-            .default_value("stop")
-            .help("What comes where the log does not answer"),
-    )
-}
-
-fn record<'a>(alloc: Global) -> Result<Command<'a>, AllocError>
-    ensures { IfOk result (λ c. name_of c ≡ codes "record") }
-{
-    let log = log(alloc, "The log to write");
-    let force = force(alloc, "Replaces a file at the log's path that is not a log");
-    let patience = patience(alloc);
-    let command = described(
-        alloc,
-        "record",
-        RECORD_ABOUT,
-        RECORD_LONG_ABOUT,
-        RECORD_AFTER_HELP,
-    );
-    let command = command.arg(log)?.arg(log_version(alloc))?.arg(force)?;
-    let command = command.arg(wait(alloc))?.arg(in_turn(alloc))?;
-    let command = command.arg(follow(alloc))?;
-    with_door_cost(alloc, command.arg(patience)?)
-}
-
-fn log_version<'a>(alloc: Global) -> Arg<'a> {
-    Arg::new(alloc, "log-version")
-        .long("log-version")
-        .value_name("N")
-        .value_parser(value_parser!(u16).range(1..=2))
-        .default_value("2")
-        .help("The version of the log, 1 or 2: version 2 has the clocks of turns")
-}
-
-fn force<'a>(alloc: Global, help: &'a str) -> Arg<'a> {
-    Arg::new(alloc, "force")
-        .long("force")
-        .action(ArgAction::SetTrue)
-        .help(help)
-}
-
-fn wait<'a>(alloc: Global) -> Arg<'a> {
-    Arg::new(alloc, "wait")
-        .long("wait")
-        .value_name("MS")
-        .value_parser(value_parser!(u32).range(0..=60_000))
-        .default_value("10")
-        .help("How long a call waits for a peer before others get a turn")
-}
-
-fn in_turn<'a>(alloc: Global) -> Arg<'a> {
-    Arg::new(alloc, "in-turn")
-        .long("in-turn")
-        .action(ArgAction::SetTrue)
-        .help("Makes the calls to the outside in the order of their turns")
-}
-
-fn follow<'a>(alloc: Global) -> Arg<'a> {
-    Arg::new(alloc, "follow")
-        .long("follow")
-        .action(ArgAction::SetTrue)
-        .help("Prints each row on standard error too, once its call has a reply")
-}
-
-fn replay<'a>(alloc: Global) -> Result<Command<'a>, AllocError>
-    ensures { IfOk result (λ c. name_of c ≡ codes "replay") }
-{
-    let log = log(alloc, "The log to replay; - is standard input");
-    let command = described(
-        alloc,
-        "replay",
-        REPLAY_ABOUT,
-        REPLAY_LONG_ABOUT,
-        REPLAY_AFTER_HELP,
-    );
-    with_scripts(alloc, command.arg(log)?.arg(threads(alloc))?)
-}
-
-fn threads<'a>(alloc: Global) -> Arg<'a> {
-    Arg::new(alloc, "threads")
-        .long("threads")
-        .action(ArgAction::SetTrue)
-        .help("Runs each script in a thread of its own")
-}
-
-fn compare<'a>(alloc: Global) -> Result<Command<'a>, AllocError>
-    ensures { IfOk result (λ c. name_of c ≡ codes "compare") }
-{
-    let log = log(alloc, "One log to replay; - is standard input");
-    let with = file(alloc, "with", "The log to compare it with");
-    let command = described(
-        alloc,
-        "compare",
-        COMPARE_ABOUT,
-        COMPARE_LONG_ABOUT,
-        COMPARE_AFTER_HELP,
-    );
-    let command = command.arg(log)?.arg(with)?;
-    let command = command.arg(rows(alloc))?.arg(no_turns(alloc))?;
-    command.arg(scripts(alloc))
-}
-
-fn rows<'a>(alloc: Global) -> Arg<'a> {
-    Arg::new(alloc, "rows")
-        .long("rows")
-        .action(ArgAction::SetTrue)
-        .help("Prints the rows that differ, those before, and how each replay ended")
-}
-
-fn no_turns<'a>(alloc: Global) -> Arg<'a> {
-    Arg::new(alloc, "no-turns")
-        .long("no-turns")
-        .action(ArgAction::SetTrue)
-        .help("Compares calls and replies alone, whatever the clocks of their turns")
-}
-
-fn draw<'a>(alloc: Global) -> Result<Command<'a>, AllocError>
-    ensures { IfOk result (λ c. name_of c ≡ codes "draw") }
-{
-    let out = Arg::new(alloc, "out")
-        .long("out")
-        .value_name("FILE")
-        .help("The page to write, a new file")
-        .required_unless_present("trace")?;
-    let trace = Arg::new(alloc, "trace")
-        .long("trace")
-        .value_name("FILE")
-        .help("The trace of the first run to write, a new file");
-    let with = Arg::new(alloc, "with")
-        .long("with")
-        .value_name("FILE")
-        .help("A second log, whose replay is drawn under that of the first")
-        .requires_arg("log")?;
-    let log = by_log(alloc, "The log to replay; - is standard input")?;
-    let command = described(alloc, "draw", DRAW_ABOUT, DRAW_LONG_ABOUT, DRAW_AFTER_HELP);
-    let command = command.arg(out)?.arg(trace)?.arg(log)?.arg(with)?;
-    let command = command.arg(patience(alloc))?.arg(door_cost(alloc))?;
-    command.arg(scripts(alloc))
-}
-
-fn show<'a>(alloc: Global) -> Result<Command<'a>, AllocError>
-    ensures { IfOk result (λ c. name_of c ≡ codes "show") }
-{
-    let log = log(alloc, "The log to print; - is standard input");
-    described(alloc, "show", SHOW_ABOUT, SHOW_LONG_ABOUT, SHOW_AFTER_HELP)
-        .arg(log)?
-        .arg(json(alloc))
-}
-
-fn make<'a>(alloc: Global) -> Result<Command<'a>, AllocError>
-    ensures { IfOk result (λ c. name_of c ≡ codes "make") }
-{
-    let out = file(alloc, "out", "The log to write");
-    let force = force(alloc, "Replaces a file at the log's path that is not a log");
-    let text = Arg::new(alloc, "text")
-        .value_name("TEXT")
-        .default_value("/dev/stdin")
-        .help("The text of the log; - is standard input too");
-    let command = described(alloc, "make", MAKE_ABOUT, MAKE_LONG_ABOUT, MAKE_AFTER_HELP);
-    command.arg(out)?.arg(force)?.arg(text)
-}
-
-fn upgrade<'a>(alloc: Global) -> Result<Command<'a>, AllocError>
-    ensures { IfOk result (λ c. name_of c ≡ codes "upgrade") }
-{
-    let log = log(alloc, "The log of version 1; - is standard input");
-    let out = file(alloc, "out", "The log of version 2 to write");
-    let force = force(
-        alloc,
-        "Replaces a file at the new log's path that is not a log",
-    );
-    let command = described(
-        alloc,
-        "upgrade",
-        UPGRADE_ABOUT,
-        UPGRADE_LONG_ABOUT,
-        UPGRADE_AFTER_HELP,
-    );
-    let command = command.arg(log)?.arg(out)?.arg(force)?;
-    command.arg(scripts(alloc))
-}
-
-// A subcommand that runs scripts.
-fn with_scripts<'a>(alloc: Global, command: Command<'a>) -> Result<Command<'a>, AllocError>
-    ensures { IfOk result (λ c. name_of c ≡ name_of command.entry) }
-{
-    let command = command.arg(turns(alloc))?.arg(calls(alloc))?;
-    let command = command
-        .arg(by_turn(alloc))?
-        .arg(lanes(alloc))?
-        .arg(json(alloc))?;
-    let command = command.arg(expect(alloc))?;
-    command.arg(scripts(alloc))
-}
-
-// An option for a number from 1 to a million.
-fn number<'a>(alloc: Global, name: &'a str, default: &'a str, help: &'a str) -> Arg<'a> {
-    Arg::new(alloc, name)
-        .long(name)
-        .value_name("N")
-        .value_parser(value_parser!(u32).range(1..=1_000_000))
-        .default_value(default)
-        .help(help)
-}
-
-fn log<'a>(alloc: Global, help: &'a str) -> Arg<'a> {
-    file(alloc, "log", help)
-}
-
-// An option for a file, which must be there.
-fn file<'a>(alloc: Global, name: &'a str, help: &'a str) -> Arg<'a> {
-    Arg::new(alloc, name)
-        .long(name)
-        .value_name("FILE")
-        .required(true)
-        .help(help)
-}
-
-fn turns<'a>(alloc: Global) -> Arg<'a> {
-    Arg::new(alloc, "turns")
-        .long("turns")
-        .action(ArgAction::SetTrue)
-        .help("Prints the clock of each turn")
-}
-
-fn calls<'a>(alloc: Global) -> Arg<'a> {
-    Arg::new(alloc, "calls")
-        .long("calls")
-        .action(ArgAction::SetTrue)
-        .help("Prints each call with what it was asked, as read 3 9 = data 6869")
-}
-
-fn by_turn<'a>(alloc: Global) -> Arg<'a> {
-    Arg::new(alloc, "by-turn")
-        .long("by-turn")
-        .action(ArgAction::SetTrue)
-        .help("Prints the rows of all threads in the order of their turns")
-}
-
-fn json<'a>(alloc: Global) -> Arg<'a> {
-    Arg::new(alloc, "json")
-        .long("json")
-        .action(ArgAction::SetTrue)
-        .help("Prints an object of JSON on each line")
-}
-
-fn lanes<'a>(alloc: Global) -> Arg<'a> {
-    Arg::new(alloc, "lanes")
-        .long("lanes")
-        .action(ArgAction::SetTrue)
-        .help("Prints the rows in the order of their turns, with a column for each thread")
-}
-
-fn expect<'a>(alloc: Global) -> Arg<'a> {
-    Arg::new(alloc, "expect")
-        .long("expect")
-        .action(ArgAction::SetTrue)
-        .help("Holds each reply to the lines #= below its call, as #= fail ENOENT")
-}
-
-fn scripts<'a>(alloc: Global) -> Arg<'a> {
-    Arg::new(alloc, "script")
-        .value_name("SCRIPT")
-        .action(ArgAction::Append)
-        .num_args(0..)
-        .help("The scripts to run, 1 to 16; - is standard input")
+// The argument of this name under one more rule.
+fn ruled<'a>(arg: Arg<'a>, id: &'static str, rule: Rule) -> Result<Arg<'a>, AllocError> {
+    match rule {
+        Rule::Flag => Ok(arg.long(id).action(ArgAction::SetTrue)),
+        Rule::Named(value) => Ok(arg.long(id).value_name(value)),
+        Rule::Three(values) => Ok(arg.long(id).num_args(3).value_names(values)),
+        Rule::Place(value) => Ok(arg.value_name(value)),
+        Rule::Many => Ok(arg.action(ArgAction::Append).num_args(0..)),
+        Rule::Repeated => Ok(arg.action(ArgAction::Append)),
+        Rule::Required => Ok(arg.required(true)),
+        Rule::RequiredWithout(other) => arg.required_unless_present(other),
+        Rule::Default(value) => Ok(arg.default_value(value)),
+        Rule::Without(value) => Ok(arg.num_args(0..=1).default_missing_value(value)),
+        Rule::Whole(least, most) => Ok(arg.value_parser(value_parser!(u32).range(least..=most))),
+        Rule::Short(least, most) => Ok(arg.value_parser(value_parser!(u16).range(least..=most))),
+        Rule::Count(least, most) => Ok(arg.value_parser(value_parser!(usize).range(least..=most))),
+        Rule::Long => Ok(arg.value_parser(value_parser!(u64))),
+        Rule::Among(words) => Ok(arg.value_parser(words)),
+        Rule::Needs(other) => arg.requires_arg(other),
+        Rule::Excludes(other) => arg.conflicts_with(other),
+    }
 }

@@ -124,6 +124,7 @@ fn run_command<O: Outside + Send + Drop, N: NewOutsides<O> + Drop, T: Threads + 
         "minimise" => run_minimise(host, matches),
         "record" => run_record(host, handles, outsides, matches),
         "replay" => run_replay(host, handles, matches),
+        "run" | "rerun" => Ok(launched(host.rt, command)),
         "compare" => run_compare(host, matches),
         "draw" => run_draw(host, matches),
         "show" => Ok(run_show(host, matches)),
@@ -241,6 +242,14 @@ fn run_replay<T: Threads + Wait + Sync>(
         )
     };
     Ok(status.unwrap_or(4))
+}
+
+// `detio run` and `detio rerun`, which run programs: where this program is called in the launcher's place.
+fn launched(rt: &HostRuntime, command: &str) -> u8 {
+    let _ = eprintln!(rt;
+        "detio: {command} is done by the launcher beside this program: call bin/detio, or ./detio in a checkout"
+    );
+    2
 }
 
 // `detio compare`, as the command line has it.
