@@ -16,8 +16,7 @@
 #include <time.h>
 #include <unistd.h>
 
-/* The error of this profile for one of the host. */
-static uint32_t error_of(int error) {
+uint32_t detio_host_error(int error) {
   switch (error) {
   case ENOENT: return DETIO_ENOENT;
   case EACCES:
@@ -37,7 +36,7 @@ static uint32_t error_of(int error) {
 
 static void fails(detio_outcome *came, int error) {
   memset(came, 0, sizeof *came);
-  came->error = error_of(error);
+  came->error = detio_host_error(error);
 }
 
 static struct sockaddr_in loopback(uint16_t port) {

@@ -7,6 +7,9 @@
 /* The longest wait, in milliseconds. */
 #define DETIO_WAIT_MOST 60000
 
+/* The error of this profile for one of the host. */
+uint32_t detio_host_error(int error);
+
 /* Makes the request, whose path or bytes are in `data`, and puts there what is read. A stream and an accept wait no
  * longer than `wait` milliseconds, and never longer than DETIO_WAIT_MOST. A write raises no SIGPIPE. */
 void detio_host_reach(const detio_outside *, bool goes, uint64_t door, unsigned wait, uint8_t *data, size_t room,

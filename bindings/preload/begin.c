@@ -1,0 +1,77 @@
+/* How a run begins and ends, and what is said of it. */
+#define _GNU_SOURCE
+#include "preload.h"
+
+#include <stdio.h>
+#include <stdlib.h>
+#include <string.h>
+#include <sys/auxv.h>
+#include <sys/syscall.h>
+
+/* One line on standard error, which begins `detio: `. */
+static void say_line(const char *format, va_list given) {
+  char line[1024] = "detio: ";
+  int length = 7 + vsnprintf(line + 7, sizeof line - 8, format, given);
+  if (length > (int)sizeof line - 2) length = sizeof line - 2;
+  line[length] = '\n';
+  KERNEL(SYS_write, 2, line, length + 1);
+}
+
+void say(const char *format, ...) {
+  va_list given;
+  va_start(given, format);
+  say_line(format, given);
+  va_end(given);
+}
+
+_Noreturn void ends(int status, const char *format, ...) {
+  va_list given;
+  va_start(given, format);
+  say_line(format, given);
+  va_end(given);
+  KERNEL(SYS_exit_group, status);
+  __builtin_unreachable();
+}
+
+/* The same once for each kind of thing. */
+void once(const char *what, const char *format, ...) {
+  static char said[64][32];
+  static int count;
+  for (int i = 0; i < count; i++)
+    if (!strncmp(said[i], what, sizeof said[i] - 1)) return;
+  if (count < 64) strncpy(said[count++], what, sizeof said[0] - 1);
+  va_list given;
+  va_start(given, format);
+  say_line(format, given);
+  va_end(given);
+}
+
+/* The sixteen bytes by chance that the kernel hands a program are the same in each run. */
+static void fix_chance(void) {
+  uint64_t *there = (uint64_t *)getauxval(AT_RANDOM);
+  if (there) there[0] = run.seed + 0x9e3779b97f4a7c15u, there[1] = ~there[0];
+}
+
+__attribute__((constructor(101))) static void begin(void) {
+  if (!getenv("DETIO_RUN")) return;
+  inside++;
+  open_log();
+  begin_turns();
+  begin_descriptors();
+  fix_chance();
+  unsetenv("DETIO_RUN"); /* a run is one process */
+  unsetenv("LD_PRELOAD");
+  unsetenv("DETIO_PAD");
+  begin_processes();
+  if (run.passes) say("paths below %s%s go to the host and are not recorded", run.passed[0], run.passes > 1 ? " and others" : "");
+  if (run.replays) forbid_effects();
+  on = true;
+  inside--;
+  begin_files();
+}
+
+__attribute__((destructor)) static void end(void) {
+  if (!on) return;
+  if (takes_part()) (void)fflush(NULL);
+  finish_run();
+}

@@ -1,0 +1,328 @@
+/* The outside: doors by detio_host.c, and the oracle, a door whose bytes answer questions. */
+#define _GNU_SOURCE
+#include "preload.h"
+
+#include "detio_host.h"
+
+#include <fcntl.h>
+#include <sched.h>
+#include <stdlib.h>
+#include <string.h>
+#include <sys/file.h>
+#include <sys/ioctl.h>
+#include <sys/resource.h>
+#include <sys/socket.h>
+#include <sys/stat.h>
+#include <sys/syscall.h>
+#include <sys/times.h>
+#include <sys/vfs.h>
+
+/* The door of the oracle: no descriptor of the host has this number. */
+#define ORACLE_DOOR (1ull << 20)
+
+/* Before the bytes of each answer. */
+typedef struct {
+  uint64_t pushes;  /* of ASK_WAITED: at which the outside answered, or NEVER */
+  int64_t result;
+  uint32_t digest;  /* of what the thread asked and wrote since its last answer */
+  uint32_t error;
+} head;
+
+static uint64_t outsides; /* outcomes so far that could fail */
+
+void digest(const void *bytes, size_t length) {
+  const uint8_t *at = bytes;
+  uint64_t x = slots[me].digest, word;
+  for (; length >= 8; at += 8, length -= 8) {
+    memcpy(&word, at, 8);
+    x = (x ^ word) * 0x9e3779b97f4a7c15u;
+    x ^= x >> 32;
+  }
+  for (; length; at++, length--) x = (x ^ *at) * 0x100000001b3u;
+  slots[me].digest = (uint32_t)(x ^ x >> 32) | 1;
+}
+
+static void digest_question(const question *q) {
+  int64_t numbers[] = {q->what, q->a, q->what == ASK_CHILD ? 0 : q->b, (int64_t)q->room};
+  digest(numbers, sizeof numbers);
+  if (q->path) digest(q->path, strlen(q->path));
+  if (q->second) digest(q->second, strlen(q->second));
+  if (q->length && q->what > LAST_SURE) digest(q->bytes, q->length);
+}
+
+/* The names in a directory from the a-th on, each after its number and its kind, as many as have room. */
+static long listing(int directory, long from, uint8_t *out, size_t room) {
+  static __thread char piece[8192];
+  long n, seen = 0, used = 0;
+  int at = (int)KERNEL(SYS_openat, directory, ".", O_RDONLY | O_DIRECTORY | O_CLOEXEC, 0);
+  if (at < 0) return at;
+  while ((n = KERNEL(SYS_getdents64, at, piece, sizeof piece)) > 0) {
+    for (long here = 0; here < n; here += *(unsigned short *)(piece + here + 16)) {
+      size_t length = 8 + 1 + strlen(piece + here + 19) + 1;
+      if (seen++ < from) continue;
+      if (used + length > room) goto full;
+      memcpy(out + used, piece + here, 8);
+      out[used + 8] = (uint8_t)piece[here + 18];
+      memcpy(out + used + 9, piece + here + 19, length - 9);
+      used += (long)length;
+    }
+  }
+full:
+  KERNEL(SYS_close, at);
+  return n < 0 ? n : used;
+}
+
+/* The kind of file that is open, as the bits of its mode. */
+static long kind_of(int fd) {
+  struct stat status;
+  long r = KERNEL(SYS_fstat, fd, &status);
+  return r < 0 ? r : (long)(status.st_mode & S_IFMT);
+}
+
+/* What has a number of the process alone. */
+static long number(long which) {
+  switch (which) {
+  case SYS_getpid: return KERNEL(SYS_getpid, 0);
+  case SYS_getppid: return KERNEL(SYS_getppid, 0);
+  case SYS_gettid: return KERNEL(SYS_gettid, 0);
+  default: return -ENOSYS;
+  }
+}
+
+/* Asks the host about names. */
+static long ask_names(const question *q, uint8_t *out) {
+  switch (q->what) {
+  case ASK_STAT: return KERNEL(SYS_newfstatat, q->at, q->path, out, q->a);
+  case ASK_STATFS: return KERNEL(SYS_statfs, q->path, out);
+  case ASK_TRUNCATE: return KERNEL(SYS_truncate, q->path, q->a);
+  case ASK_UNLINK: return KERNEL(SYS_unlinkat, q->at, q->path, q->a);
+  case ASK_RENAME: return KERNEL(SYS_renameat2, q->at, q->path, q->at_second, q->second, q->b);
+  case ASK_LINK: return KERNEL(SYS_linkat, q->at, q->path, q->at_second, q->second, q->b);
+  case ASK_SYMLINK: return KERNEL(SYS_symlinkat, q->path, q->at, q->second);
+  case ASK_MKDIR: return KERNEL(SYS_mkdirat, q->at, q->path, q->a);
+  case ASK_MKNOD: return KERNEL(SYS_mknodat, q->at, q->path, q->a, q->b);
+  case ASK_ACCESS:
+    return q->b ? KERNEL(SYS_faccessat2, q->at, q->path, q->a, q->b) : KERNEL(SYS_faccessat, q->at, q->path, q->a);
+  case ASK_CHMOD: return KERNEL(SYS_fchmodat, q->at, q->path, q->a);
+  case ASK_CHOWN: return KERNEL(SYS_fchownat, q->at, q->path, (uint32_t)q->a, (uint32_t)(q->a >> 32), q->b);
+  case ASK_UTIMES: return KERNEL(SYS_utimensat, q->at, q->path, q->bytes, q->a);
+  case ASK_READLINK: return KERNEL(SYS_readlinkat, q->at, q->path, out, q->room);
+  case ASK_GETCWD: return KERNEL(SYS_getcwd, out, q->room);
+  case ASK_CHDIR: return KERNEL(SYS_chdir, q->path);
+  case ASK_GETXATTR: return KERNEL(q->b ? SYS_lgetxattr : SYS_getxattr, q->path, q->second, out, q->a);
+  case ASK_LISTXATTR: return KERNEL(q->b ? SYS_llistxattr : SYS_listxattr, q->path, out, q->a);
+  default: return -ENOSYS;
+  }
+}
+
+/* Asks the host about what is open. */
+static long ask_open(const question *q, uint8_t *out) {
+  socklen_t length = (socklen_t)q->room;
+  long r;
+  switch (q->what) {
+  case ASK_FSTAT: return KERNEL(SYS_fstat, q->at, out);
+  case ASK_FSTATFS: return KERNEL(SYS_fstatfs, q->at, out);
+  case ASK_PREAD: return KERNEL(SYS_pread64, q->at, out, q->room, q->a);
+  case ASK_PWRITE: return KERNEL(SYS_pwrite64, q->at, q->bytes, q->length, q->a);
+  case ASK_FTRUNCATE: return KERNEL(SYS_ftruncate, q->at, q->a);
+  case ASK_FALLOCATE: return KERNEL(SYS_fallocate, q->at, 0, q->a, q->b);
+  case ASK_FSYNC: return KERNEL(q->a ? SYS_fdatasync : SYS_fsync, q->at);
+  case ASK_FLOCK: return KERNEL(SYS_flock, q->at, q->a | LOCK_NB);
+  case ASK_LOCKED: memcpy(out, q->bytes, q->length); return KERNEL(SYS_fcntl, q->at, q->a, out);
+  case ASK_FCHMOD: return KERNEL(SYS_fchmod, q->at, q->a);
+  case ASK_FCHOWN: return KERNEL(SYS_fchown, q->at, q->a, q->b);
+  case ASK_FCHDIR: return KERNEL(SYS_fchdir, q->at);
+  case ASK_LISTING: return listing(q->at, (long)q->a, out, q->room);
+  case ASK_FGETXATTR: return KERNEL(SYS_fgetxattr, q->at, q->second, out, q->a);
+  case ASK_FLISTXATTR: return KERNEL(SYS_flistxattr, q->at, out, q->a);
+  case ASK_IOCTL:
+    if (q->length) memcpy(out, q->bytes, q->length);
+    return KERNEL(SYS_ioctl, q->at, q->a, out);
+  case ASK_SOCKNAME:
+  case ASK_PEERNAME:
+    r = KERNEL(q->what == ASK_SOCKNAME ? SYS_getsockname : SYS_getpeername, q->at, out, &length);
+    return r < 0 ? r : (long)length;
+  default: return ask_names(q, out);
+  }
+}
+
+/* Asks the host anything. */
+static long ask_host(const question *q, uint8_t *out) {
+  switch (q->what) {
+  case ASK_ABOUT: memcpy(out, q->bytes, q->length); return (long)q->length;
+  case ASK_WAITED: memcpy(out, q->bytes, q->length); return q->a;
+  case ASK_CLOSED: return 0;
+  case ASK_ERROR: return slots[me].error;
+  case ASK_KIND: return kind_of(q->at);
+  case ASK_CLOCK: return KERNEL(SYS_clock_gettime, q->a, out);
+  case ASK_RANDOM: return KERNEL(SYS_getrandom, out, q->room, q->a);
+  case ASK_NUMBER: return number((long)q->a);
+  case ASK_KILL: return KERNEL(SYS_kill, q->a, q->b);
+  case ASK_CHILD: return ((long (*)(const void *))(intptr_t)q->b)(q->bytes);
+  case ASK_SYSINFO: return KERNEL(SYS_sysinfo, out);
+  case ASK_UNAME: return KERNEL(SYS_uname, out);
+  case ASK_USAGE: return KERNEL(SYS_getrusage, q->a, out);
+  case ASK_TIMES: return KERNEL(SYS_times, out);
+  case ASK_AFFINITY: return KERNEL(SYS_sched_getaffinity, q->a, q->room, out);
+  case ASK_SIGNALS: return KERNEL(SYS_rt_sigpending, out, 8);
+  default: return ask_open(q, out);
+  }
+}
+
+/* How many bytes of its answer a question has, by its result. */
+static size_t bytes_of(const question *q, long result) {
+  if (result < 0) return 0;
+  switch (q->what) {
+  case ASK_ABOUT: case ASK_RANDOM: case ASK_PREAD: case ASK_READLINK: case ASK_GETCWD: case ASK_LISTING:
+  case ASK_SOCKNAME: case ASK_PEERNAME: case ASK_AFFINITY: return (size_t)result < q->room ? (size_t)result : q->room;
+  case ASK_GETXATTR: case ASK_FGETXATTR: case ASK_LISTXATTR: case ASK_FLISTXATTR: return q->a ? (size_t)result : 0;
+  default: return q->room;
+  }
+}
+
+static void answer(const question *q, uint8_t *data, detio_outcome *came) {
+  slot *s = &slots[me];
+  head h = {.pushes = q->what != ASK_WAITED ? 0 : s->woken ? NEVER : s->pushes, .digest = s->digest};
+  if (q->room <= 512) memset(data + sizeof h, 0, q->room);
+  long result = ask_host(q, data + sizeof h);
+  h.result = result < 0 ? -1 : result;
+  h.error = result < 0 ? (uint32_t)-result : 0;
+  memcpy(data, &h, sizeof h);
+  came->value = came->length = sizeof h + bytes_of(q, result);
+}
+
+/* Opens a door by its name: one of ours, or a path of the host, relative to a directory that is open or not. */
+static void open_door(uint8_t *data, size_t length, detio_outcome *came) {
+  const question *q = slots[me].asked;
+  long opened = -ENOENT;
+  if (length == 7 && !memcmp(data, "detio:o", 7)) {
+    came->opened = ORACLE_DOOR;
+    return;
+  }
+  if (length == 7 && !memcmp(data, "detio:0", 7)) opened = KERNEL(SYS_fcntl, 0, F_DUPFD_CLOEXEC, NATIVE);
+  else if (length == 7 && !memcmp(data, "detio:f", 7)) opened = KERNEL(SYS_fcntl, q->at, F_DUPFD_CLOEXEC, NATIVE);
+  else if (q) opened = KERNEL(SYS_openat, q->at, q->path, slots[me].how | O_CLOEXEC, slots[me].mode);
+  if (opened < 0) {
+    came->error = detio_host_error((int)-opened);
+    errno = (int)-opened;
+  } else {
+    came->opened = (uint64_t)opened;
+  }
+}
+
+/* Whether --fault has this outcome fail. */
+static bool is_faulty(const detio_outside *asked, bool oracle) {
+  if (!on || !run.fault || asked->kind == DETIO_ASKS_CLOSE) return false;
+  if (oracle && (!slots[me].asked || slots[me].asked->what < LAST_SURE)) return false;
+  return ++outsides == run.fault;
+}
+
+/* Reaches the host, without the lock. */
+static void reach(const detio_outside *asked, bool goes, uint64_t door, uint8_t *data, detio_outcome *came) {
+  slot *s = &slots[me];
+  memset(came, 0, sizeof *came);
+  errno = 0;
+  if (asked->kind == DETIO_ASKS_OPEN) {
+    open_door(data, asked->length, came);
+  } else if (goes && door == ORACLE_DOOR) {
+    if (asked->kind == DETIO_ASKS_READ && s->asked) answer(s->asked, data, came);
+  } else {
+    detio_host_reach(asked, goes, door, 10, data, ROOM, came);
+  }
+  s->error = errno;
+  s->opened = came->error ? -1 : (int)came->opened;
+  bool opens = asked->kind == DETIO_ASKS_OPEN || (asked->kind >= DETIO_ASKS_LISTEN && asked->kind <= DETIO_ASKS_ACCEPT);
+  if (opens && !came->error && came->opened < NATIVE)
+    ends(OURS, "the host opened number %d, which is the run's own: somebody closed what kept it", s->opened);
+}
+
+/* The next outcome of this thread in the log: DETIO_DONE, or the thread lacks it. */
+static uint32_t from_log(detio_outcome *came, uint8_t *data) {
+  slot *s = &slots[me];
+  uint32_t code = detio_next(&machine, (size_t)me, came, data, ROOM);
+  s->opened = -1;
+  if (code == DETIO_DIVERGED)
+    ends(DIVERGED, "the rerun diverges: thread %d, at its call %lu, asks what outcome %lu of its log does not answer",
+         me, s->calls, s->outcomes + 1);
+  if (code == DETIO_END_OF_LOG) s->lacks = true;
+  return code;
+}
+
+/* The call of this thread goes outside, and comes back with its outcome. The lock is held before and after. */
+uint32_t go_outside(void) {
+  slot *s = &slots[me];
+  detio_outside asked;
+  detio_outcome came;
+  bool goes = false;
+  uint64_t door = 0;
+  uint32_t code = detio_request(&machine, (size_t)me, &asked, s->room, ROOM);
+  if (!code) code = detio_begin_outside(&machine, (size_t)me, &goes, &door);
+  if (code) return code;
+  if (run.replays) {
+    if (from_log(&came, s->room)) return s->lacks ? DETIO_DONE : DETIO_DIVERGED;
+  } else {
+    bool faulty = is_faulty(&asked, goes && door == ORACLE_DOOR);
+    settle();
+    unlock_run();
+    if (faulty) memset(&came, 0, sizeof came), came.error = DETIO_EIO, s->error = EIO;
+    else reach(&asked, goes, door, s->room, &came);
+    lock_run();
+  }
+  came.back = door;
+  s->outcomes++;
+  if ((code = detio_record(&machine, (size_t)me, &came, s->room, came.length))) return code;
+  if (!run.replays) write_log();
+  return DETIO_DONE;
+}
+
+/* Asks the outside: its result, and the bytes of the answer. Where it fails, -1, and errno says why. */
+int64_t ask(const question *q, void *out, size_t *length) {
+  slot *s = &slots[me];
+  detio_reply reply;
+  head h;
+  digest_question(q);
+  s->asked = q;
+  make_call(&(detio_call){.kind = DETIO_READ, .descriptor = ORACLE, .number = (int64_t)(sizeof h + q->room)}, NULL, 0,
+            NULL, 0, &reply, s->room, ROOM);
+  s->asked = NULL;
+  if (reply.kind != DETIO_DATA || reply.count < sizeof h) return errno = EIO, -1;
+  memcpy(&h, s->room, sizeof h);
+  if (run.replays && h.digest != s->digest)
+    ends(DIVERGED, "the rerun diverges: thread %d, before its call %lu, asked or wrote something else", me, s->calls);
+  s->digest = 0;
+  if (out) memcpy(out, s->room + sizeof h, reply.count - sizeof h);
+  if (length) *length = reply.count - sizeof h;
+  if (h.error) errno = (int)h.error;
+  return h.result;
+}
+
+int64_t asks(enum ask what, int at, const char *path, int64_t a, void *out, size_t room) {
+  return ask(&(question){.what = what, .at = at, .path = path, .a = a, .room = room}, out, NULL);
+}
+
+void wait_outside(void (*ready)(void *), void *given, int16_t *bits, size_t count) {
+  park_outside(ready, given);
+  unlock_run();
+  (void)ask(&(question){.what = ASK_WAITED, .bytes = bits, .length = 2 * count, .room = 2 * count}, bits, NULL);
+}
+
+/* A time of another clock as one of CLOCK_MONOTONIC. */
+static struct timespec as_monotonic(clockid_t clock, const struct timespec *until) {
+  struct timespec now, here;
+  KERNEL(SYS_clock_gettime, clock, &now);
+  KERNEL(SYS_clock_gettime, CLOCK_MONOTONIC, &here);
+  int64_t seconds = (int64_t)until->tv_sec - now.tv_sec + here.tv_sec;
+  int64_t nanos = (int64_t)until->tv_nsec - now.tv_nsec + here.tv_nsec;
+  for (; nanos < 0; nanos += 1000000000) seconds--;
+  for (; nanos >= 1000000000; nanos -= 1000000000) seconds++;
+  if (seconds < 0) return (struct timespec){0, 0};
+  return (struct timespec){seconds, nanos};
+}
+
+bool wait_until(const void *what, clockid_t clock, const struct timespec *until) {
+  struct timespec then = as_monotonic(clock, until);
+  bool woken = park_until(what, &then);
+  unlock_run();
+  (void)asks(ASK_WAITED, 0, NULL, woken, NULL, 0);
+  return woken;
+}

@@ -1,0 +1,235 @@
+/* What the files of the preload library share.
+ *
+ * The library stands below a program that is dynamically linked: its functions have the names of libc's and are found
+ * first. Each thread of the program is a thread of one machine (detio.h). A call on a descriptor below NATIVE is a call
+ * of the machine; all else that comes from outside is a read of one door, the oracle, whose bytes answer a question; and
+ * what threads do to one another (locks, conditions, joins) is done to plain variables by the thread that has the turn.
+ *
+ * Words: a thread is *inside* while the library's own code calls libc; *at the turn* while it has the turn and the
+ * library's lock; *parked* while it waits for another thread or for the outside, and then it is pushed along after the
+ * turn; *serial* is a run in which only the thread that has the turn is in the program's own code. */
+#ifndef DETIO_PRELOAD_H
+#define DETIO_PRELOAD_H
+
+/* Headers say `nonnull` of some arguments, and then a compiler leaves out our tests for NULL. */
+#define __nonnull(parameters)
+
+#include "detio.h"
+
+#include <dlfcn.h>
+#include <errno.h>
+#include <pthread.h>
+#include <stdarg.h>
+#include <stdbool.h>
+#include <stddef.h>
+#include <stdint.h>
+#include <sys/types.h>
+#include <time.h>
+
+#define EXPORT __attribute__((visibility("default")))
+
+enum {
+  SLOTS = 16,     /* threads that live at once, at the most */
+  NUMBERS = 32,   /* descriptors of the machine */
+  ORACLE = 31,    /* the oracle's */
+  NATIVE = 512,   /* the host's own numbers begin here */
+  ROOM = 32768,   /* for the bytes of one outcome */
+  PIECE = 32000,  /* bytes of one answer of the oracle, without its head */
+  MOST = 32767    /* bytes of one read or write */
+};
+
+/* The statuses with which Detio ends a run. */
+enum { DIVERGED = 120, DEADLOCK = 121, LOG_ENDS = 123, DIFFERS = 124, OURS = 125 };
+
+/* What is asked of the outside. Those after LAST_SURE can fail, so --fault may take them. */
+enum ask {
+  ASK_ABOUT = 1, ASK_WAITED, ASK_CLOCK, ASK_RANDOM, ASK_NUMBER, ASK_ERROR, ASK_KIND, ASK_CLOSED, LAST_SURE,
+  ASK_STAT, ASK_FSTAT, ASK_STATFS, ASK_FSTATFS, ASK_PREAD, ASK_PWRITE, ASK_FTRUNCATE, ASK_TRUNCATE, ASK_FALLOCATE,
+  ASK_FSYNC, ASK_FLOCK, ASK_LOCKED, ASK_UNLINK, ASK_RENAME, ASK_LINK, ASK_SYMLINK, ASK_MKDIR, ASK_MKNOD, ASK_ACCESS,
+  ASK_CHMOD, ASK_FCHMOD, ASK_CHOWN, ASK_FCHOWN, ASK_UTIMES, ASK_READLINK, ASK_REALPATH, ASK_GETCWD, ASK_CHDIR,
+  ASK_FCHDIR, ASK_LISTING, ASK_GETXATTR, ASK_FGETXATTR, ASK_LISTXATTR, ASK_FLISTXATTR, ASK_IOCTL, ASK_SOCKNAME,
+  ASK_PEERNAME, ASK_KILL, ASK_CHILD, ASK_SYSINFO, ASK_UNAME, ASK_USAGE, ASK_TIMES, ASK_AFFINITY, ASK_SIGNALS
+};
+
+typedef struct {
+  enum ask what;
+  int at, at_second;  /* descriptors of the host: of the file, or of the directories that the paths begin at */
+  const char *path, *second;
+  int64_t a, b;
+  const void *bytes;  /* that go with the question */
+  size_t length;
+  size_t room;        /* for the bytes of the answer, at most PIECE */
+} question;
+
+enum state { FREE, LIVE, DONE };
+
+typedef struct {
+  int word;                /* its thread sleeps while this is 0 */
+  enum state state;
+  bool sleeps;             /* in nap() */
+  bool wants_turn;         /* .. until it has the turn, and is not parked */
+  bool in_call;            /* .. until its call goes on */
+  bool parked;
+  const void *on;          /* what it is parked at */
+  void *then;              /* the mutex that a condition's waiter needs after that */
+  uint64_t ticket;         /* who was parked first */
+  bool outside, ready;     /* parked for the outside too; which has answered */
+  bool woken;              /* .. and was unparked by another thread */
+  uint64_t pushes;         /* since it was parked */
+  uint64_t until;          /* of a rerun: at how many pushes the outside answers, or NEVER */
+  bool lacks;              /* of a rerun: the log has no outcome for its call */
+  bool flag;               /* of a reader or writer: it wants to write */
+  bool detached, joined;
+  pthread_t id;
+  uint64_t calls;          /* that it has made */
+  uint64_t outcomes;       /* that came for it */
+  uint64_t chance;         /* the state of its delays */
+  uint32_t digest;         /* of what it has asked and written since its last outcome */
+  int error;               /* of the host, of its last outcome */
+  int opened;              /* the descriptor of the host that it opened last */
+  const question *asked;   /* what it asks the oracle, or how it opens a door */
+  int how, mode;           /* the flags and the mode of such an opening */
+  uint8_t room[ROOM];
+} slot;
+
+#define NEVER UINT64_MAX
+
+extern slot slots[SLOTS];
+extern __thread int me;      /* the slot of this thread, or -1 */
+extern __thread int inside;  /* above 0: the library's own calls go to libc */
+extern bool on;              /* the run has begun and is not over */
+
+/* The settings of the run. The log of a rerun has them. */
+typedef struct {
+  bool replays, force, overlap, serial, fixed;  /* fixed: the same addresses in each run */
+  size_t threads;
+  uint64_t seed, fault;
+  const char *memory;                  /* paths below it live in the run; NULL: none */
+  const char *passed[SLOTS];           /* paths below these go to the host unrecorded */
+  size_t passes;
+} settings;
+extern settings run;
+
+/* Whether this call is the program's own, by a thread of the run. Once the run is over, no thread goes on but the one
+ * that ends the process. */
+_Noreturn void stay(void);
+extern int ender;  /* the slot of that thread; or NOBODY, while the run goes on */
+enum { NOBODY = -2 };
+static inline bool takes_part(void) {
+  if (__builtin_expect(ender != NOBODY, 0) && me >= 0 && me != ender) stay();
+  return on && me >= 0 && !inside;
+}
+
+/* The function of this name that the program would have called without us. */
+#define NEXT(name)                     \
+  static __typeof__(&name) next;       \
+  if (!next) next = (__typeof__(&name))dlsym(RTLD_NEXT, #name)
+/* .. and calls of libc's own, or before and after the run, go there. */
+#define OFF(call) \
+  if (!takes_part()) return call
+
+/* turns.c */
+void lock_run(void);
+void unlock_run(void);
+void turn(void);      /* takes the lock and waits for the turn */
+void turn_end(void);  /* one unit of work; gives the lock back, and of a serial run waits for the turn before */
+void turn_leave(void); /* the same for a thread that leaves the run */
+void begin_turns(void);
+void thread_begins(void);
+void park(const void *on);       /* at the turn: until another thread unparks it, and it has the turn again */
+bool park_until(const void *on, const struct timespec *until);  /* .. or until then: whether another thread did */
+void park_outside(void (*ready)(void *), void *given);
+void unpark(int i);              /* at the turn */
+int first_waiter(const void *on);
+uint64_t next_ticket(void);
+int free_slot(void);
+uint32_t make_call(const detio_call *, const void *text, size_t length, const void *second, size_t second_length,
+                   detio_reply *, void *data, size_t room);
+int settle(void);
+void nap(int i);
+int others_alive(void);
+void finish_run(void);
+extern detio machine;
+
+/* outside.c */
+uint32_t go_outside(void);
+int64_t ask(const question *, void *answer, size_t *length);
+int64_t asks(enum ask what, int at, const char *path, int64_t a, void *answer, size_t room);
+/* At the turn, which it gives up with the lock: waits for the outside, which has one record. `ready` says what is there,
+ * in `count` bits of `bits`, and is called of a recording alone. */
+void wait_outside(void (*ready)(void *), void *given, int16_t *bits, size_t count);
+/* .. until another thread unparks it from this, or until this time of this clock: whether it was unparked. */
+bool wait_until(const void *on, clockid_t clock, const struct timespec *until);
+void digest(const void *bytes, size_t length);
+
+/* log.c */
+void open_log(void);
+void write_log(void);
+uint64_t next_pushes(int i);  /* of a rerun: what the next answer for thread i has as its count of pushes */
+bool has_outcomes(int i);
+void compare_about(void);
+
+/* the end of a run by us */
+_Noreturn void ends(int status, const char *format, ...) __attribute__((format(printf, 2, 3)));
+void say(const char *format, ...) __attribute__((format(printf, 1, 2)));
+void once(const char *what, const char *format, ...) __attribute__((format(printf, 2, 3)));
+
+/* descriptors.c: what is known of each number of the machine */
+enum kind { NONE, MEMORY, PIPE, HOST, STREAM, LISTENER, SOCKET, STANDARD };
+typedef struct {
+  enum kind kind;
+  int uses;       /* how many numbers refer to it */
+  int real;       /* the descriptor of the host; of STANDARD 1 or 2 */
+  bool nonblock, directory, waits;
+} opened_file;
+bool is_ours(int fd);
+opened_file *opened_at(int fd);
+int real_of(int fd);
+int fails(uint32_t error);
+int takes_door(int real);  /* a number for what is open at the host, of a recording, or of its log */
+int opens_at(int at, const char *path, int how, int mode);
+int64_t plain_call(const detio_call *, const void *text, size_t length, void *data, size_t room);
+void *new_opened(int fd, enum kind kind, int real);
+void begin_descriptors(void);
+void wait_for_door(int fd, short events);
+
+/* names.c */
+enum where { IN_RUN, PASSED, OUTSIDE };
+enum where where_is(const char *path);
+const char *in_memory(const char *path);
+bool asked_of_us(const char *path);  /* whether the run answers for a path */
+
+/* files.c */
+void begin_files(void);
+struct _IO_FILE *new_stream(int fd, const char *mode);
+
+/* process.c */
+void begin_processes(void);
+
+/* net.c */
+void forbid_effects(void);
+
+/* heap.c */
+void *detio_heap_malloc(size_t);
+void *detio_heap_calloc(size_t, size_t);
+void *detio_heap_realloc(void *, size_t);
+void detio_heap_free(void *);
+extern size_t heap_used;
+
+/* System calls that no library sees: the result, or an error's number below 0. */
+static inline long kernel(long n, long a, long b, long c, long d, long e, long f) {
+  long r;
+  register long r10 __asm__("r10") = d;
+  register long r8 __asm__("r8") = e;
+  register long r9 __asm__("r9") = f;
+  __asm__ volatile("syscall"
+                   : "=a"(r)
+                   : "0"(n), "D"(a), "S"(b), "d"(c), "r"(r10), "r"(r8), "r"(r9)
+                   : "rcx", "r11", "memory");
+  return r;
+}
+#define KERNEL(n, ...) KERNEL_(n, __VA_ARGS__, 0, 0, 0, 0, 0, 0)
+#define KERNEL_(n, a, b, c, d, e, f, ...) \
+  kernel(n, (long)(a), (long)(b), (long)(c), (long)(d), (long)(e), (long)(f))
+
+#endif

@@ -1,0 +1,403 @@
+/* Turns and parking: who goes on, and who waits. All of it is done under the library's one lock. */
+#define _GNU_SOURCE
+#include "preload.h"
+
+#include <linux/futex.h>
+#include <stdio.h>
+#include <stdlib.h>
+#include <sys/syscall.h>
+
+detio machine;
+slot slots[SLOTS];
+__thread int me = -1, inside;
+bool on;
+int ender = NOBODY;
+settings run;
+
+static int lock_word;          /* 0 free, 1 held, 2 held and waited for */
+static unsigned to_wake;       /* a bit a slot: who is woken once the lock is free */
+static unsigned callers;       /* .. and whose call is asked and not answered */
+static uint64_t tickets;
+
+static long futex(int *word, int what, int value) { return KERNEL(SYS_futex, word, what | FUTEX_PRIVATE_FLAG, value); }
+
+void lock_run(void) {
+  int seen = 0;
+  if (__atomic_compare_exchange_n(&lock_word, &seen, 1, false, __ATOMIC_ACQUIRE, __ATOMIC_RELAXED)) return;
+  while (__atomic_exchange_n(&lock_word, 2, __ATOMIC_ACQUIRE) != 0) futex(&lock_word, FUTEX_WAIT, 2);
+}
+
+void unlock_run(void) {
+  unsigned who = to_wake;
+  to_wake = 0;
+  if (__atomic_exchange_n(&lock_word, 0, __ATOMIC_RELEASE) == 2) futex(&lock_word, FUTEX_WAKE, 1);
+  for (; who; who &= who - 1) futex(&slots[__builtin_ctz(who)].word, FUTEX_WAKE, 1);
+}
+
+static void rouse(int i) {
+  if (!slots[i].sleeps || slots[i].word) return;
+  __atomic_store_n(&slots[i].word, 1, __ATOMIC_RELEASE);
+  to_wake |= 1u << i;
+}
+
+static int holder(void) {
+  bool there = false;
+  size_t i = 0;
+  return detio_holder(&machine, &there, &i) == DETIO_DONE && there ? (int)i : -1;
+}
+
+/* Whether a thread other than these two is in its own code, or on its way there. */
+static bool others_run(int i, int j) {
+  for (int k = 0; k < (int)run.threads; k++)
+    if (k != i && k != j && slots[k].state == LIVE && !slots[k].sleeps) return true;
+  return false;
+}
+
+/* Where the thread that has the turn lacks an outcome, and nobody runs, a rerun ends. */
+static void end_with_log(int h, int also) {
+  const slot *s = &slots[h];
+  if (h >= 0 && s->lacks && !others_run(h, also))
+    ends(LOG_ENDS, "the log ends here: thread %d, at its call %lu, has no outcome %lu", h, s->calls, s->outcomes + 1);
+}
+
+/* The slot's word is 0, and the lock is free: sleeps until another thread rouses it, or until this time of CLOCK_MONOTONIC,
+ * if there is one: whether it was roused. */
+static bool sleep_at(slot *s, const struct timespec *until) {
+  for (int spun = 0; spun < 64 && !__atomic_load_n(&s->word, __ATOMIC_ACQUIRE); spun++) __builtin_ia32_pause();
+  while (!__atomic_load_n(&s->word, __ATOMIC_ACQUIRE)) {
+    long r = KERNEL(SYS_futex, &s->word, FUTEX_WAIT_BITSET | FUTEX_PRIVATE_FLAG, 0, until, NULL, FUTEX_BITSET_MATCH_ANY);
+    if (r == -ETIMEDOUT) return false;
+  }
+  return true;
+}
+
+/* Sleeps until another thread rouses this one, or until then: whether it was roused. The lock is held before and after,
+ * and free meanwhile. */
+static bool nap_until(int i, const struct timespec *until) {
+  slot *s = &slots[i];
+  __atomic_store_n(&s->word, 0, __ATOMIC_RELAXED);
+  s->sleeps = true;
+  if (run.replays) end_with_log(holder(), i);
+  unlock_run();
+  bool roused = sleep_at(s, until);
+  lock_run();
+  s->sleeps = false;
+  return roused;
+}
+
+void nap(int i) { (void)nap_until(i, NULL); }
+
+/* Whether the outside has answered a thread that is parked for it, and it comes back at this push. */
+static bool comes_back(const slot *s) {
+  return s->outside && (run.replays ? s->pushes == s->until : s->ready);
+}
+
+/* Every thread waits for another: the line says which, and at which of its calls. */
+_Noreturn static void end_deadlocked(void) {
+  char line[SLOTS * 40] = "";
+  int length = 0;
+  for (size_t i = 0; i < run.threads; i++)
+    if (slots[i].state == LIVE)
+      length += snprintf(line + length, sizeof line - (size_t)length, "%s thread %zu at its call %lu", length ? "," : "", i,
+                         slots[i].calls);
+  ends(DEADLOCK, "deadlock: every thread waits for another:%s", line);
+}
+
+/* Of threads that are parked, while nobody runs: whether the outside will move one of them. A run that nobody moves
+ * any more ends here. */
+static bool is_moved(void) {
+  bool outside = false, lacks = false;
+  int first = -1;
+  for (size_t i = 0; i < run.threads; i++) {
+    const slot *s = &slots[i];
+    if (s->state != LIVE) continue;
+    if (first < 0) first = (int)i;
+    if (!s->outside) continue;
+    if (run.replays ? s->until != NEVER : s->ready) return true;
+    outside = outside || !run.replays;
+    if (run.replays && !has_outcomes((int)i)) lacks = true, first = (int)i;
+  }
+  if (outside) return false;
+  if (lacks) ends(LOG_ENDS, "the log ends here: thread %d, at its call %lu, waits for what it does not have", first,
+                  slots[first].calls);
+  end_deadlocked();
+}
+
+/* A thread that is parked, or no thread at all, has the turn: it is pushed along, by ever longer steps. How far does
+ * not depend on when. */
+static void push(int i) {
+  slot *s = &slots[i];
+  uint64_t step = s->pushes < 8 ? 16u << s->pushes : 4096;
+  s->pushes++;
+  uint32_t code = detio_work(&machine, (size_t)i, step);
+  if (code) ends(OURS, "the machine takes no more work (code %u)", code);
+}
+
+/* Attempts locks, and pushes along who is parked, until a thread that goes on by itself has the turn. */
+static int give_turn(void) {
+  for (;;) {
+    uint32_t code = DETIO_DONE;
+    while (callers && (code = detio_settle(&machine)) == DETIO_MORE) {
+    }
+    if (code != DETIO_DONE && code != DETIO_STOPPED && code != DETIO_OVER)
+      ends(OURS, "the machine makes no more attempts (code %u)", code);
+    int h = holder();
+    if (h < 0) return h;
+    slot *s = &slots[h];
+    if (s->state == LIVE && !s->parked) {
+      end_with_log(h, h);
+      return h;
+    }
+    if (s->state == LIVE && comes_back(s)) {
+      s->outside = s->parked = false;
+      s->on = NULL;
+      return h;
+    }
+    bool somebody = false;
+    for (size_t i = 0; i < run.threads && !somebody; i++) somebody = slots[i].state == LIVE && !slots[i].parked;
+    if (!somebody && !is_moved()) return -1;
+    push(h);
+  }
+}
+
+static bool call_goes_on(size_t i) {
+  uint32_t phase = 0;
+  bool may = true;
+  if (slots[i].lacks || detio_phase(&machine, i, &phase)) return false;
+  if (phase == DETIO_TO_OUTSIDE && !run.overlap) (void)detio_may_go(&machine, i, &may);
+  return may && (phase == DETIO_GRANTED || phase == DETIO_TO_OUTSIDE || phase == DETIO_BLOCKED);
+}
+
+/* Makes what can be made, and wakes who can go on: who has the turn. */
+int settle(void) {
+  int h = give_turn();
+  if (h >= 0 && h != me && slots[h].wants_turn && !slots[h].parked) rouse(h);
+  for (unsigned who = callers; who; who &= who - 1) {
+    int i = __builtin_ctz(who);
+    if (i != me && slots[i].in_call && call_goes_on((size_t)i)) rouse(i);
+  }
+  return h;
+}
+
+static uint64_t chance(uint64_t *state) {
+  uint64_t x = *state += 0x9e3779b97f4a7c15u;
+  x = (x ^ (x >> 30)) * 0xbf58476d1ce4e5b9u;
+  x = (x ^ (x >> 27)) * 0x94d049bb133111ebu;
+  return x ^ (x >> 31);
+}
+
+/* Before a call or a lock of a run with a seed, a delay: whether there was one. */
+static bool delay(void) {
+  slots[me].calls++;
+  if (!run.seed) return false;
+  (void)detio_work(&machine, (size_t)me, chance(&slots[me].chance) % 200);
+  return true;
+}
+
+/* The lock is held: waits until this thread has the turn, and is not parked. */
+static void await_turn(void) {
+  slot *s = &slots[me];
+  if (settle() == me && !s->parked) return;
+  s->wants_turn = true;
+  do nap(me); while (settle() != me || s->parked);
+  s->wants_turn = false;
+}
+
+/* Of a serial run a thread has the turn while it is in the program's own code, until it works. */
+void turn(void) {
+  lock_run();
+  if (delay() || !run.serial) await_turn();
+}
+
+/* Of a serial run nobody is in the program's own code but who has the turn. */
+static void return_to_program(void) {
+  if (run.serial && !inside) await_turn();
+  else (void)settle();
+  unlock_run();
+}
+
+void turn_end(void) {
+  int kept = errno;
+  (void)detio_work(&machine, (size_t)me, 1);
+  return_to_program();
+  errno = kept;
+}
+
+void turn_leave(void) {
+  (void)detio_work(&machine, (size_t)me, 1);
+  settle();
+  unlock_run();
+}
+
+void thread_begins(void) {
+  lock_run();
+  return_to_program();
+}
+
+uint64_t next_ticket(void) { return ++tickets; }
+
+/* At the turn: this thread is parked, of the outside too or not. */
+static void lie_down(const void *what, bool outside) {
+  slot *s = &slots[me];
+  s->outside = outside;
+  s->ready = s->woken = false;
+  s->until = outside && run.replays ? next_pushes(me) : NEVER;
+  s->on = what;
+  s->ticket = next_ticket();
+  s->pushes = 0;
+  s->parked = s->wants_turn = true;
+  (void)detio_work(&machine, (size_t)me, 1);
+  settle();
+}
+
+void park(const void *what) {
+  lie_down(what, false);
+  await_turn();
+}
+
+/* At the turn: parks this thread until another unparks it, or until then: whether it was unparked. It has the turn
+ * again. Of a recording the host's clock says when; of a rerun the log does, by the count of pushes. */
+bool park_until(const void *what, const struct timespec *until) {
+  slot *s = &slots[me];
+  lie_down(what, true);
+  if (!run.replays && s->parked && !nap_until(me, until)) s->ready = true;
+  await_turn();
+  return s->woken;
+}
+
+/* At the turn: parks this thread while `ready` waits for the outside, which is called of a recording alone. It has the
+ * turn again. */
+void park_outside(void (*ready)(void *), void *given) {
+  lie_down(NULL, true);
+  if (!run.replays) {
+    unlock_run();
+    ready(given);
+    lock_run();
+    slots[me].ready = true;
+  }
+  await_turn();
+}
+
+void unpark(int i) {
+  slots[i].parked = slots[i].outside = false;
+  slots[i].woken = true;
+  slots[i].on = NULL;
+}
+
+/* The thread that was parked first at this, or -1. */
+int first_waiter(const void *what) {
+  int found = -1;
+  for (size_t i = 0; i < run.threads; i++)
+    if (slots[i].parked && slots[i].on == what && (found < 0 || slots[i].ticket < slots[found].ticket)) found = (int)i;
+  return found;
+}
+
+/* The free slot whose clock is the least, so that its thread begins soon, or -1. */
+int free_slot(void) {
+  int found = -1;
+  uint64_t least = 0, clock = 0;
+  for (size_t i = 0; i < run.threads; i++) {
+    if (slots[i].state != FREE || detio_clock(&machine, i, &clock)) continue;
+    if (found < 0 || clock < least) found = (int)i, least = clock;
+  }
+  return found;
+}
+
+int others_alive(void) {
+  int count = 0;
+  for (size_t i = 0; i < run.threads; i++) count += (int)i != me && slots[i].state == LIVE;
+  return count;
+}
+
+/* The call of this thread goes on, until its reply. */
+static uint32_t go_on(detio_reply *reply, uint8_t *data, size_t room) {
+  slot *s = &slots[me];
+  for (;;) {
+    uint32_t phase = 0;
+    bool may = true;
+    settle();
+    uint32_t code = detio_phase(&machine, (size_t)me, &phase);
+    if (code) return code;
+    if (phase == DETIO_GRANTED || phase == DETIO_RECORDED) {
+      code = detio_answer(&machine, (size_t)me, reply, data, room);
+      if (code == DETIO_AGAIN) continue;
+      return code;
+    }
+    if (phase == DETIO_TO_OUTSIDE && !run.overlap) (void)detio_may_go(&machine, (size_t)me, &may);
+    if (phase == DETIO_BLOCKED) {
+      code = detio_again(&machine, (size_t)me);
+    } else if (phase == DETIO_TO_OUTSIDE && may) {
+      code = go_outside();
+    } else {
+      s->in_call = true;
+      nap(me);
+      s->in_call = false;
+    }
+    if (code) return code;
+  }
+}
+
+/* Makes a call of this thread, and returns once it has its reply. */
+uint32_t make_call(const detio_call *call, const void *text, size_t length, const void *second, size_t second_length,
+                   detio_reply *reply, void *data, size_t room) {
+  static const uint8_t nothing[1];
+  uint8_t none[1];
+  int kept = errno;
+  inside++;
+  lock_run();
+  delay();
+  uint32_t code = detio_ask(&machine, (size_t)me, call, text ? text : nothing, length, second ? second : nothing,
+                            second_length);
+  callers |= 1u << me;
+  if (!code) code = go_on(reply, data ? data : none, data ? room : 0);
+  callers &= ~(1u << me);
+  inside--;
+  return_to_program();
+  if (code && code != DETIO_NOT_A_CALL)
+    ends(code == DETIO_LOG_FULL || code == DETIO_NO_MEMORY ? OURS : DIVERGED,
+         "thread %d, at its call %lu: the machine refuses it (code %u)", me, slots[me].calls, code);
+  errno = kept;
+  return code;
+}
+
+/* The first thread is there, and nobody else. */
+void begin_turns(void) {
+  for (size_t i = 0; i < run.threads; i++) slots[i].chance = run.seed * 1000 + i;
+  slots[0].state = LIVE;
+  slots[0].id = pthread_self();
+  me = 0;
+}
+
+/* A thread that does not go on, while another ends the process. */
+_Noreturn void stay(void) {
+  static int never;
+  for (;;) futex(&never, FUTEX_WAIT, 0);
+}
+
+/* The process ends by this thread: no other gets a turn any more. */
+void finish_run(void) {
+  detio_run_end ended = {0};
+  uint64_t unused = 0, left = 0;
+  size_t first = 0;
+  if (!on || inside) return;
+  if (me >= 0) {
+    if (slots[me].digest) (void)asks(ASK_CLOSED, 0, NULL, 0, NULL, 0);
+    turn();
+  } else if (others_alive()) {
+    return;
+  }
+  on = false;
+  ender = me;
+  inside++;
+  bool all = true;
+  for (size_t i = 0; i < run.threads; i++) all = !detio_end(&machine, i) && all;
+  if (run.replays) {
+    for (size_t i = run.threads; i-- > 0;)
+      if (!detio_unused(&machine, i, &left) && left) unused += left, first = i;
+    if (unused)
+      ends(DIVERGED, "the rerun diverges: it ended with %lu outcomes of its log unused, the first of thread %zu after its"
+           " call %lu", unused, first, slots[first].calls);
+  }
+  if (all) (void)detio_finish(&machine, &ended);
+  if (!run.replays) write_log();
+}
