@@ -1,0 +1,421 @@
+/* Locks, in the order of turns: their state is in the program's own objects, and whoever waited first goes on first. */
+#define _GNU_SOURCE
+#include "preload.h"
+
+#include <linux/futex.h>
+#include <semaphore.h>
+#include <string.h>
+#include <sys/random.h>
+#include <sys/syscall.h>
+#include <threads.h>
+
+/* A mutex as we use the C library's: its owner's slot + 1, how often that has it, and its kind where that has it. */
+typedef struct { int owner, count, unused[2], kind; } mutex;
+
+/* At the turn: frees a mutex for the one that waited first. */
+static void pass_on(mutex *m) {
+  int w = first_waiter(m);
+  m->owner = w < 0 ? 0 : w + 1;
+  m->count = w < 0 ? 0 : 1;
+  if (w >= 0) unpark(w);
+}
+
+/* At the turn: takes a mutex that this thread may have already: an error, or 0 where it has it now, or -1 where it is
+ * another's. */
+static int take_now(mutex *m, bool tries) {
+  int kind = m->kind & 3;
+  if (!m->owner) {
+    m->owner = me + 1;
+    m->count = 1;
+    return 0;
+  }
+  if (m->owner != me + 1) return -1;
+  if (kind == PTHREAD_MUTEX_RECURSIVE) return m->count++, 0;
+  return tries ? EBUSY : kind == PTHREAD_MUTEX_ERRORCHECK ? EDEADLK : -1;
+}
+
+EXPORT int pthread_mutex_lock(pthread_mutex_t *p) {
+  NEXT(pthread_mutex_lock);
+  OFF(next(p));
+  turn();
+  int code = take_now((mutex *)p, false);
+  if (code < 0) park(p), code = 0;
+  turn_end();
+  return code;
+}
+EXPORT int pthread_mutex_trylock(pthread_mutex_t *p) {
+  NEXT(pthread_mutex_trylock);
+  OFF(next(p));
+  turn();
+  int code = take_now((mutex *)p, true);
+  turn_end();
+  return code < 0 ? EBUSY : code;
+}
+EXPORT int pthread_mutex_clocklock(pthread_mutex_t *p, clockid_t clock, const struct timespec *until) {
+  NEXT(pthread_mutex_clocklock);
+  OFF(next(p, clock, until));
+  turn();
+  int code = take_now((mutex *)p, false);
+  if (code < 0) {
+    bool had = wait_until(p, clock, until);
+    return had ? 0 : ETIMEDOUT;
+  }
+  turn_end();
+  return code;
+}
+EXPORT int pthread_mutex_timedlock(pthread_mutex_t *p, const struct timespec *until) {
+  return pthread_mutex_clocklock(p, CLOCK_REALTIME, until);
+}
+EXPORT int pthread_mutex_unlock(pthread_mutex_t *p) {
+  NEXT(pthread_mutex_unlock);
+  OFF(next(p));
+  mutex *m = (mutex *)p;
+  int kind = m->kind & 3, code = 0;
+  bool looks = kind == PTHREAD_MUTEX_RECURSIVE || kind == PTHREAD_MUTEX_ERRORCHECK;
+  turn();
+  if (looks && m->owner != me + 1) code = EPERM;
+  else if (!looks || --m->count == 0) pass_on(m);
+  turn_end();
+  return code;
+}
+
+/* Spin locks, as the C library has them here: 1 is free. */
+EXPORT int pthread_spin_lock(pthread_spinlock_t *p) {
+  NEXT(pthread_spin_lock);
+  OFF(next(p));
+  turn();
+  while (*p != 1) park((void *)p);
+  *p = 0;
+  turn_end();
+  return 0;
+}
+EXPORT int pthread_spin_trylock(pthread_spinlock_t *p) {
+  NEXT(pthread_spin_trylock);
+  OFF(next(p));
+  turn();
+  bool had = *p == 1;
+  if (had) *p = 0;
+  turn_end();
+  return had ? 0 : EBUSY;
+}
+EXPORT int pthread_spin_unlock(pthread_spinlock_t *p) {
+  NEXT(pthread_spin_unlock);
+  OFF(next(p));
+  turn();
+  *p = 1;
+  int w = first_waiter((void *)p);
+  if (w >= 0) unpark(w);
+  turn_end();
+  return 0;
+}
+
+/* Conditions: who waits is in the slots, and a condition has no state of ours. */
+EXPORT int pthread_cond_wait(pthread_cond_t *c, pthread_mutex_t *p) {
+  NEXT(pthread_cond_wait);
+  OFF(next(c, p));
+  mutex *m = (mutex *)p;
+  turn();
+  int count = m->count;
+  slots[me].then = m;
+  pass_on(m);
+  park(c);
+  m->count = count;
+  turn_end();
+  return 0;
+}
+
+/* At the turn: who waits for a condition waits for its mutex now, or has it. */
+static void move_on(int w) {
+  mutex *m = slots[w].then;
+  if (!m) {
+    unpark(w);
+  } else if (!m->owner) {
+    m->owner = w + 1;
+    m->count = 1;
+    unpark(w);
+  } else {
+    slots[w].on = m;
+    slots[w].ticket = next_ticket();
+  }
+}
+EXPORT int pthread_cond_signal(pthread_cond_t *c) {
+  NEXT(pthread_cond_signal);
+  OFF(next(c));
+  turn();
+  int w = first_waiter(c);
+  if (w >= 0) move_on(w);
+  turn_end();
+  return 0;
+}
+EXPORT int pthread_cond_broadcast(pthread_cond_t *c) {
+  NEXT(pthread_cond_broadcast);
+  OFF(next(c));
+  turn();
+  for (int w; (w = first_waiter(c)) >= 0;) move_on(w);
+  turn_end();
+  return 0;
+}
+EXPORT int pthread_cond_clockwait(pthread_cond_t *c, pthread_mutex_t *p, clockid_t clock, const struct timespec *until) {
+  NEXT(pthread_cond_clockwait);
+  OFF(next(c, p, clock, until));
+  mutex *m = (mutex *)p;
+  if (until->tv_nsec < 0 || until->tv_nsec >= 1000000000) return EINVAL;
+  turn();
+  int count = m->count;
+  slots[me].then = NULL;
+  pass_on(m);
+  bool woken = wait_until(c, clock, until);
+  turn();
+  if (take_now(m, false) < 0) park(m);
+  m->count = count;
+  turn_end();
+  return woken ? 0 : ETIMEDOUT;
+}
+EXPORT int pthread_cond_timedwait(pthread_cond_t *c, pthread_mutex_t *p, const struct timespec *until) {
+  bool monotonic = c->__data.__wrefs & 2;
+  return pthread_cond_clockwait(c, p, monotonic ? CLOCK_MONOTONIC : CLOCK_REALTIME, until);
+}
+
+/* Semaphores: their value. */
+EXPORT int sem_wait(sem_t *s) {
+  NEXT(sem_wait);
+  OFF(next(s));
+  turn();
+  if (*(unsigned *)s) --*(unsigned *)s;
+  else park(s);
+  turn_end();
+  return 0;
+}
+EXPORT int sem_trywait(sem_t *s) {
+  NEXT(sem_trywait);
+  OFF(next(s));
+  turn();
+  bool had = *(unsigned *)s != 0;
+  if (had) --*(unsigned *)s;
+  turn_end();
+  return had ? 0 : (errno = EAGAIN, -1);
+}
+EXPORT int sem_clockwait(sem_t *s, clockid_t clock, const struct timespec *until) {
+  NEXT(sem_clockwait);
+  OFF(next(s, clock, until));
+  if (until->tv_nsec < 0 || until->tv_nsec >= 1000000000) return errno = EINVAL, -1;
+  turn();
+  if (!*(unsigned *)s) return wait_until(s, clock, until) ? 0 : (errno = ETIMEDOUT, -1);
+  --*(unsigned *)s;
+  turn_end();
+  return 0;
+}
+EXPORT int sem_timedwait(sem_t *s, const struct timespec *until) { return sem_clockwait(s, CLOCK_REALTIME, until); }
+EXPORT int sem_post(sem_t *s) {
+  NEXT(sem_post);
+  OFF(next(s));
+  turn();
+  int w = first_waiter(s);
+  if (w >= 0) unpark(w);
+  else ++*(unsigned *)s;
+  turn_end();
+  return 0;
+}
+EXPORT int sem_getvalue(sem_t *s, int *value) {
+  NEXT(sem_getvalue);
+  OFF(next(s, value));
+  turn();
+  *value = *(int *)s;
+  turn_end();
+  return 0;
+}
+
+/* Readers and writers: -1 is a writer, else how many readers there are. A writer that waits goes before readers that
+ * come later. */
+static bool must_wait(pthread_rwlock_t *p, bool writes) {
+  int n = *(int *)p, w = first_waiter(p);
+  return writes ? n != 0 : n < 0 || (w >= 0 && slots[w].flag);
+}
+static int take_rwlock(pthread_rwlock_t *p, bool writes, bool tries, clockid_t clock, const struct timespec *until) {
+  int *n = (int *)p;
+  turn();
+  while (must_wait(p, writes)) {
+    if (tries) {
+      turn_end();
+      return EBUSY;
+    }
+    slots[me].flag = writes;
+    if (!until) {
+      park(p);
+      continue;
+    }
+    bool woken = wait_until(p, clock, until);
+    turn();
+    if (!woken && must_wait(p, writes)) {
+      turn_end();
+      return ETIMEDOUT;
+    }
+  }
+  *n = writes ? -1 : *n + 1;
+  turn_end();
+  return 0;
+}
+#define RWLOCK(name, writes, tries)                  \
+  EXPORT int name(pthread_rwlock_t *p) {             \
+    NEXT(name);                                      \
+    OFF(next(p));                                    \
+    return take_rwlock(p, writes, tries, 0, NULL);   \
+  }
+RWLOCK(pthread_rwlock_rdlock, false, false)
+RWLOCK(pthread_rwlock_wrlock, true, false)
+RWLOCK(pthread_rwlock_tryrdlock, false, true)
+RWLOCK(pthread_rwlock_trywrlock, true, true)
+#define RWLOCK_CLOCK(name, writes)                                                                \
+  EXPORT int name(pthread_rwlock_t *p, clockid_t clock, const struct timespec *until) {           \
+    NEXT(name);                                                                                   \
+    OFF(next(p, clock, until));                                                                   \
+    return take_rwlock(p, writes, false, clock, until);                                           \
+  }
+RWLOCK_CLOCK(pthread_rwlock_clockrdlock, false)
+RWLOCK_CLOCK(pthread_rwlock_clockwrlock, true)
+EXPORT int pthread_rwlock_timedrdlock(pthread_rwlock_t *p, const struct timespec *until) {
+  return pthread_rwlock_clockrdlock(p, CLOCK_REALTIME, until);
+}
+EXPORT int pthread_rwlock_timedwrlock(pthread_rwlock_t *p, const struct timespec *until) {
+  return pthread_rwlock_clockwrlock(p, CLOCK_REALTIME, until);
+}
+EXPORT int pthread_rwlock_unlock(pthread_rwlock_t *p) {
+  NEXT(pthread_rwlock_unlock);
+  OFF(next(p));
+  int *n = (int *)p, w;
+  turn();
+  *n = *n < 0 ? 0 : *n - 1;
+  if (!*n) while ((w = first_waiter(p)) >= 0) unpark(w);
+  turn_end();
+  return 0;
+}
+
+/* Barriers: who is there, how many it needs, and which round it is. */
+typedef struct { unsigned in, need; } barrier;
+EXPORT int pthread_barrier_init(pthread_barrier_t *p, const pthread_barrierattr_t *attr, unsigned count) {
+  NEXT(pthread_barrier_init);
+  OFF(next(p, attr, count));
+  if (!count) return EINVAL;
+  memset(p, 0, sizeof *p);
+  *(barrier *)p = (barrier){0, count};
+  return 0;
+}
+EXPORT int pthread_barrier_destroy(pthread_barrier_t *p) {
+  NEXT(pthread_barrier_destroy);
+  OFF(next(p));
+  return 0;
+}
+EXPORT int pthread_barrier_wait(pthread_barrier_t *p) {
+  NEXT(pthread_barrier_wait);
+  OFF(next(p));
+  barrier *b = (barrier *)p;
+  turn();
+  bool last = ++b->in == b->need;
+  if (last) {
+    b->in = 0;
+    for (int w; (w = first_waiter(b)) >= 0;) unpark(w);
+  } else {
+    park(b);
+  }
+  turn_end();
+  return last ? PTHREAD_BARRIER_SERIAL_THREAD : 0;
+}
+
+/* Once: 0 not yet, 1 one thread is at it, 2 done. */
+static void end_once(pthread_once_t *p, int state) {
+  turn();
+  *p = state;
+  for (int w; (w = first_waiter(p)) >= 0;) unpark(w);
+  turn_end();
+}
+static void give_up_once(void *p) { end_once(p, 0); }
+EXPORT int pthread_once(pthread_once_t *p, void (*does)(void)) {
+  NEXT(pthread_once);
+  OFF(next(p, does));
+  turn();
+  while (*p == 1) park(p);
+  bool first = *p == 0;
+  if (first) *p = 1;
+  turn_end();
+  if (!first) return 0;
+  pthread_cleanup_push(give_up_once, p);
+  does();
+  pthread_cleanup_pop(0);
+  end_once(p, 2);
+  return 0;
+}
+
+/* The locks of C11 are those of POSIX. */
+static int as_c(int code) {
+  return code == 0 ? thrd_success : code == EBUSY ? thrd_busy : code == ETIMEDOUT ? thrd_timedout : thrd_error;
+}
+EXPORT int mtx_lock(mtx_t *m) { return as_c(pthread_mutex_lock((pthread_mutex_t *)m)); }
+EXPORT int mtx_trylock(mtx_t *m) { return as_c(pthread_mutex_trylock((pthread_mutex_t *)m)); }
+EXPORT int mtx_timedlock(mtx_t *m, const struct timespec *until) {
+  return as_c(pthread_mutex_timedlock((pthread_mutex_t *)m, until));
+}
+EXPORT int mtx_unlock(mtx_t *m) { return as_c(pthread_mutex_unlock((pthread_mutex_t *)m)); }
+EXPORT int cnd_wait(cnd_t *c, mtx_t *m) { return as_c(pthread_cond_wait((pthread_cond_t *)c, (pthread_mutex_t *)m)); }
+EXPORT int cnd_timedwait(cnd_t *c, mtx_t *m, const struct timespec *until) {
+  return as_c(pthread_cond_timedwait((pthread_cond_t *)c, (pthread_mutex_t *)m, until));
+}
+EXPORT int cnd_signal(cnd_t *c) { return as_c(pthread_cond_signal((pthread_cond_t *)c)); }
+EXPORT int cnd_broadcast(cnd_t *c) { return as_c(pthread_cond_broadcast((pthread_cond_t *)c)); }
+EXPORT void call_once(once_flag *p, void (*does)(void)) { (void)pthread_once((pthread_once_t *)p, does); }
+
+/* Futexes by `syscall`: parked at their word. */
+static long wake_futex(const void *word, int most) {
+  long woken = 0;
+  turn();
+  for (int w; woken < most && (w = first_waiter(word)) >= 0; woken++) unpark(w);
+  turn_end();
+  return woken;
+}
+static long wait_futex(int *word, int op, int value, const struct timespec *time) {
+  clockid_t clock = op & FUTEX_CLOCK_REALTIME ? CLOCK_REALTIME : CLOCK_MONOTONIC;
+  struct timespec until;
+  turn();
+  if (__atomic_load_n(word, __ATOMIC_SEQ_CST) != value) {
+    turn_end();
+    return errno = EAGAIN, -1;
+  }
+  if (!time) {
+    park(word);
+    turn_end();
+    return 0;
+  }
+  until = *time;
+  if ((op & FUTEX_CMD_MASK) == FUTEX_WAIT && !run.replays) { /* it says for how long, and not until when */
+    KERNEL(SYS_clock_gettime, CLOCK_MONOTONIC, &until);
+    until.tv_sec += time->tv_sec;
+    until.tv_nsec += time->tv_nsec;
+    if (until.tv_nsec >= 1000000000) until.tv_sec++, until.tv_nsec -= 1000000000;
+  }
+  return wait_until(word, clock, &until) ? 0 : (errno = ETIMEDOUT, -1);
+}
+static long futex(int *word, int op, int value, const struct timespec *time) {
+  switch (op & FUTEX_CMD_MASK) {
+  case FUTEX_WAKE:
+  case FUTEX_WAKE_BITSET: return wake_futex(word, value);
+  case FUTEX_WAIT:
+  case FUTEX_WAIT_BITSET: return wait_futex(word, op, value, time);
+  default:
+    once("futex", "futex operation %d is not covered: refused", op & FUTEX_CMD_MASK);
+    return errno = ENOSYS, -1;
+  }
+}
+
+EXPORT long syscall(long n, ...) {
+  va_list given;
+  va_start(given, n);
+  long a = va_arg(given, long), b = va_arg(given, long), c = va_arg(given, long);
+  long d = va_arg(given, long), e = va_arg(given, long), f = va_arg(given, long);
+  va_end(given);
+  if (takes_part()) {
+    if (n == SYS_futex) return futex((int *)a, (int)b, (int)c, (const struct timespec *)d);
+    if (n == SYS_getrandom) return getrandom((void *)a, (size_t)b, (unsigned)c);
+    if (n == SYS_gettid) return asks(ASK_NUMBER, 0, NULL, SYS_gettid, NULL, 0);
+  }
+  long r = kernel(n, a, b, c, d, e, f);
+  return r < 0 && r > -4096 ? (errno = (int)-r, -1) : r;
+}
