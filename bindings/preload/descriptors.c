@@ -1,0 +1,749 @@
+/* Calls on descriptors. The program's numbers below NATIVE are the machine's; the host's begin there, since the numbers
+ * below it are taken at the start. */
+#define _GNU_SOURCE
+#include "preload.h"
+
+#include <fcntl.h>
+#include <limits.h>
+#include <poll.h>
+#include <stdlib.h>
+#include <string.h>
+#include <sys/file.h>
+#include <sys/ioctl.h>
+#include <sys/mman.h>
+#include <sys/resource.h>
+#include <sys/sendfile.h>
+#include <sys/stat.h>
+#include <sys/syscall.h>
+#include <sys/uio.h>
+#include <sys/vfs.h>
+#include <unistd.h>
+
+static opened_file *numbers[NUMBERS];
+static bool closes_on_exec[NUMBERS];
+
+bool is_ours(int fd) { return fd < NATIVE; }
+opened_file *opened_at(int fd) {
+  static opened_file none = {.real = -1};
+  return fd >= 0 && fd < NUMBERS && numbers[fd] ? numbers[fd] : &none;
+}
+/* The descriptor of the host of a number of ours, or the number itself where it is the host's. */
+int real_of(int fd) { return is_ours(fd) && fd != AT_FDCWD ? opened_at(fd)->real : fd; }
+
+/* Whether a number of the host is behind one of ours, so that the program does not have it. */
+static bool is_behind(int real) {
+  for (int fd = 0; fd < NUMBERS; fd++)
+    if (numbers[fd] && numbers[fd]->kind != STANDARD && numbers[fd]->real == real) return true;
+  return false;
+}
+
+/* These errors of the machine stand for several of the host: which one it was is asked. */
+static bool is_vague(uint32_t error) { return error == DETIO_EIO || error == DETIO_EACCES; }
+
+static const int errors[] = {0,       EBADF,        EINVAL,   EOVERFLOW,    ESPIPE,     EFBIG,      EAGAIN,
+                             EPIPE,   EINTR,        EIO,      ENOENT,       EEXIST,     ENOTDIR,    EISDIR,
+                             ENOTEMPTY, EPERM,      EACCES,   EMFILE,       ENFILE,     ENOSPC,     ENAMETOOLONG,
+                             ENOTSOCK, EBUSY,       ECONNREFUSED, ECONNRESET, EADDRINUSE, ETIMEDOUT};
+int fails(uint32_t error) {
+  errno = error < sizeof errors / sizeof *errors ? errors[error] : EIO;
+  return -1;
+}
+
+/* A call whose reply is a number, a count or done: -1 with errno where it failed. */
+int64_t plain_call(const detio_call *call, const void *text, size_t length, void *data, size_t room) {
+  detio_reply r;
+  uint64_t before = slots[me].outcomes;
+  if (make_call(call, text, length, NULL, 0, &r, data, room) == DETIO_NOT_A_CALL) return errno = EINVAL, -1;
+  if (r.kind == DETIO_FAILURE && is_vague(r.error) && slots[me].outcomes != before) {
+    int64_t error = asks(ASK_ERROR, 0, NULL, 0, NULL, 0);
+    return errno = error > 0 ? (int)error : EIO, -1;
+  }
+  if (r.kind == DETIO_FAILURE) return fails(r.error);
+  return r.kind == DETIO_NUMBER ? r.first : r.kind == DETIO_COUNT || r.kind == DETIO_DATA ? (int64_t)r.count : 0;
+}
+static int64_t call_on(int fd, uint32_t kind, int64_t number) {
+  return plain_call(&(detio_call){.kind = kind, .descriptor = fd, .number = number}, NULL, 0, NULL, 0);
+}
+
+/* What a number refers to from now on. */
+static void refer(int fd, opened_file *file) {
+  if (fd < 0 || fd >= NUMBERS) return;
+  lock_run();
+  if (numbers[fd] && !--numbers[fd]->uses) detio_heap_free(numbers[fd]);
+  numbers[fd] = file;
+  closes_on_exec[fd] = false;
+  if (file) file->uses++;
+  unlock_run();
+}
+void *new_opened(int fd, enum kind kind, int real) {
+  lock_run();
+  opened_file *file = detio_heap_calloc(1, sizeof *file);
+  unlock_run();
+  if (!file) ends(OURS, "out of memory");
+  *file = (opened_file){.kind = kind, .real = real};
+  refer(fd, file);
+  return file;
+}
+
+/* What is open at the host has this kind: a directory is read by its names, and all but files may wait. */
+static void set_kind(opened_file *file, int64_t kind) {
+  file->directory = S_ISDIR(kind);
+  file->waits = !S_ISREG(kind) && !S_ISDIR(kind) && !S_ISBLK(kind);
+}
+
+int takes_door(int real) {
+  slot *s = &slots[me];
+  question q = {.at = real};
+  s->asked = &q;
+  int fd = (int)plain_call(&(detio_call){.kind = DETIO_HOST_OPEN, .choice = DETIO_READ_WRITE}, "detio:f", 7, NULL, 0);
+  int opened = s->opened;
+  s->asked = NULL;
+  if (fd < 0) return fd;
+  ((opened_file *)new_opened(fd, HOST, opened))->waits = true;
+  return fd;
+}
+
+/* Opens a path, relative to a directory of the host: the number, or -1. */
+int opens_at(int at, const char *path, int how, int mode) {
+  const char *memory = at == AT_FDCWD || *path == '/' ? in_memory(path) : NULL;
+  question q = {.at = at, .path = path};
+  slot *s = &slots[me];
+  detio_call c = {.kind = memory ? DETIO_OPEN : DETIO_HOST_OPEN, .choice = (uint32_t)(how & O_ACCMODE)};
+  if (c.choice > DETIO_READ_WRITE || (how & O_PATH)) c.choice = DETIO_READ_ONLY;
+  c.flags = (how & O_CREAT ? DETIO_CREATE : 0) | (how & O_EXCL ? DETIO_EXCLUSIVE : 0) |
+            (how & O_TRUNC ? DETIO_TRUNCATE : 0) | (how & O_APPEND ? DETIO_APPEND : 0) |
+            (how & O_NONBLOCK ? DETIO_NONBLOCK : 0);
+  s->asked = memory ? NULL : &q;
+  s->how = how;
+  s->mode = mode;
+  if (!memory) digest(path, strlen(path));
+  int fd = (int)(memory ? plain_call(&c, memory, strlen(memory), NULL, 0) : plain_call(&c, "file", 4, NULL, 0));
+  int opened = s->opened;
+  s->asked = NULL;
+  if (fd < 0) return fd;
+  opened_file *file = new_opened(fd, memory ? MEMORY : HOST, memory ? -1 : opened);
+  closes_on_exec[fd] = how & O_CLOEXEC;
+  if (memory) return fd;
+  set_kind(file, asks(ASK_KIND, opened, NULL, 0, NULL, 0));
+  file->nonblock = how & O_NONBLOCK;
+  return fd;
+}
+
+static int opens(int at, const char *path, int how, int mode) {
+  if (!strncmp(path, "/dev/std", 8)) {
+    int fd = !strcmp(path + 8, "in") ? 0 : !strcmp(path + 8, "out") ? 1 : !strcmp(path + 8, "err") ? 2 : -1;
+    if (fd >= 0) return dup(fd);
+  }
+  const char *number = !strncmp(path, "/dev/fd/", 8) ? path + 8 : !strncmp(path, "/proc/self/fd/", 14) ? path + 14 : "";
+  if (*number >= '0' && *number <= '9' && !strchr(number, '/')) return dup(atoi(number));
+  return opens_at(at, path, how, mode);
+}
+
+/* The mode that comes after the flags of an opening. */
+#define MODE_AFTER(how)                                            \
+  int mode = 0;                                                    \
+  if ((how & O_CREAT) || (how & O_TMPFILE) == O_TMPFILE) {         \
+    va_list given;                                                 \
+    va_start(given, how);                                          \
+    mode = va_arg(given, int);                                     \
+    va_end(given);                                                 \
+  }
+#define OPENS(name)                                                \
+  EXPORT int name(const char *path, int how, ...) {                \
+    NEXT(name);                                                    \
+    MODE_AFTER(how)                                                \
+    OFF(next(path, how, mode));                                    \
+    if (!asked_of_us(path)) return next(path, how, mode);          \
+    return opens(AT_FDCWD, path, how, mode);                       \
+  }
+OPENS(open)
+OPENS(open64)
+EXPORT int __open_2(const char *path, int how) { return open(path, how); }
+EXPORT int __open64_2(const char *path, int how) { return open(path, how); }
+EXPORT int creat(const char *path, mode_t mode) { return open(path, O_CREAT | O_WRONLY | O_TRUNC, mode); }
+EXPORT int creat64(const char *path, mode_t mode) { return creat(path, mode); }
+#define OPENS_AT(name)                                                             \
+  EXPORT int name(int at, const char *path, int how, ...) {                        \
+    NEXT(name);                                                                    \
+    MODE_AFTER(how)                                                                \
+    OFF(next(at, path, how, mode));                                                \
+    if (!asked_of_us(path) && (at == AT_FDCWD || !path || *path == '/')) return next(at, path, how, mode); \
+    return opens(real_of(at), path, how, mode);                                    \
+  }
+OPENS_AT(openat)
+OPENS_AT(openat64)
+EXPORT int __openat_2(int at, const char *path, int how) { return openat(at, path, how); }
+EXPORT int __openat64_2(int at, const char *path, int how) { return openat(at, path, how); }
+
+EXPORT int close(int fd) {
+  NEXT(close);
+  OFF(next(fd));
+  if (fd == ORACLE || is_behind(fd)) return errno = EBADF, -1;
+  if (!is_ours(fd)) return next(fd);
+  int r = (int)call_on(fd, DETIO_CLOSE, 0);
+  if (!r) refer(fd, NULL);
+  return r;
+}
+/* Of a range of numbers ours are closed; those of the host stay, since the library's own are among them. */
+EXPORT int close_range(unsigned first, unsigned last, int flags) {
+  NEXT(close_range);
+  OFF(next(first, last, flags));
+  for (unsigned fd = first; fd <= last && fd < NUMBERS; fd++)
+    if (fd != ORACLE && numbers[fd]) (void)close((int)fd);
+  return 0;
+}
+EXPORT void closefrom(int first) { (void)close_range(first < 0 ? 0 : (unsigned)first, UINT_MAX, 0); }
+
+/* Reads and writes. A read or a write of a stream waits for its peer before it is made: so it holds nobody up. */
+typedef struct { struct pollfd *doors; nfds_t count; int64_t nanos; int16_t *bits; } readiness;
+static void poll_doors(void *given) {
+  readiness *r = given;
+  struct timespec t = {r->nanos / 1000000000, r->nanos % 1000000000};
+  long n = KERNEL(SYS_ppoll, r->doors, r->count, r->nanos < 0 ? NULL : &t, NULL, 0);
+  for (nfds_t i = 0; i < r->count; i++) r->bits[i] = n > 0 ? r->doors[i].revents : 0;
+}
+/* Waits until one of these doors is ready, or for so long (-1: for ever): what each is ready for. */
+static void await_doors(struct pollfd *doors, nfds_t count, int64_t nanos) {
+  int16_t bits[64] = {0};
+  readiness r = {doors, count, nanos, bits};
+  turn();
+  wait_outside(poll_doors, &r, bits, count);
+  for (nfds_t i = 0; i < count; i++) doors[i].revents = bits[i];
+}
+void wait_for_door(int fd, short events) {
+  const opened_file *f = opened_at(fd);
+  struct pollfd door = {.fd = f->real, .events = events};
+  if ((f->kind == STREAM || f->kind == LISTENER || (f->kind == HOST && f->waits)) && !f->nonblock)
+    await_doors(&door, 1, -1);
+}
+
+/* A read at the descriptor's offset, or where `at` is none of it. */
+static ssize_t reads(int fd, void *bytes, size_t count, off_t at) {
+  const opened_file *f = opened_at(fd);
+  bool all = f->kind == HOST && !f->waits ? true : f->kind == MEMORY;
+  size_t done = 0;
+  if (at < 0 && count) wait_for_door(fd, POLLIN);
+  do {
+    size_t most = at >= 0 && f->kind == HOST ? PIECE : MOST, piece = count - done < most ? count - done : most, n = 0;
+    int64_t got;
+    if (at >= 0 && f->kind == HOST) {
+      got = ask(&(question){.what = ASK_PREAD, .at = f->real, .a = at + (off_t)done, .room = piece},
+                (char *)bytes + done, &n);
+    } else {
+      got = plain_call(&(detio_call){.kind = at < 0 ? DETIO_READ : DETIO_PREAD, .descriptor = fd,
+                                     .number = (int64_t)piece, .position = at + (off_t)done},
+                       NULL, 0, (char *)bytes + done, piece);
+    }
+    if (got < 0 && errno == EINTR && !done && !f->nonblock) continue; /* the patience was over */
+    if (got < 0) return done ? (ssize_t)done : -1;
+    done += (size_t)got;
+    if ((size_t)got < piece || !all) break;
+  } while (done < count);
+  return (ssize_t)done;
+}
+EXPORT ssize_t read(int fd, void *bytes, size_t count) {
+  NEXT(read);
+  OFF(next(fd, bytes, count));
+  return is_ours(fd) ? reads(fd, bytes, count, -1) : next(fd, bytes, count);
+}
+EXPORT ssize_t __read_chk(int fd, void *bytes, size_t count, size_t room) {
+  if (count > room) abort();
+  return read(fd, bytes, count);
+}
+EXPORT ssize_t pread(int fd, void *bytes, size_t count, off_t at) {
+  NEXT(pread);
+  OFF(next(fd, bytes, count, at));
+  if (is_ours(fd) && at < 0) return errno = EINVAL, -1;
+  return is_ours(fd) ? reads(fd, bytes, count, at) : next(fd, bytes, count, at);
+}
+EXPORT ssize_t pread64(int fd, void *bytes, size_t count, off_t at) { return pread(fd, bytes, count, at); }
+EXPORT ssize_t __pread_chk(int fd, void *bytes, size_t count, off_t at, size_t room) {
+  if (count > room) abort();
+  return pread(fd, bytes, count, at);
+}
+EXPORT ssize_t __pread64_chk(int fd, void *bytes, size_t count, off_t at, size_t room) {
+  return __pread_chk(fd, bytes, count, at, room);
+}
+
+/* Standard output and standard error go straight to the host, at their turns, and in a rerun too. */
+static ssize_t write_standard(int to, const char *bytes, size_t count) {
+  size_t done = 0;
+  digest(bytes, count);
+  turn();
+  while (done < count) {
+    long n = KERNEL(SYS_write, to, bytes + done, count - done);
+    if (n == -EINTR) continue;
+    if (n == -EAGAIN) {
+      struct pollfd there = {.fd = to, .events = POLLOUT};
+      KERNEL(SYS_ppoll, &there, 1, NULL, NULL, 0);
+      continue;
+    }
+    if (n < 0 && !run.replays) /* its outcome has no record */
+      ends(OURS, "standard %s cannot be written: %s", to == 1 ? "output" : "error", strerror((int)-n));
+    if (n < 0) break;
+    done += (size_t)n;
+  }
+  turn_end();
+  return (ssize_t)count;
+}
+static ssize_t writes(int fd, const char *bytes, size_t count, off_t at) {
+  const opened_file *f = opened_at(fd);
+  if (f->kind == STANDARD) return write_standard(f->real, bytes, count);
+  if (at < 0) digest(bytes, f->kind == HOST || f->kind == STREAM ? count : 0);
+  size_t done = 0;
+  do {
+    size_t piece = count - done < MOST ? count - done : MOST;
+    int64_t got;
+    if (at >= 0 && f->kind == HOST)
+      got = ask(&(question){.what = ASK_PWRITE, .at = f->real, .a = at + (off_t)done, .bytes = bytes + done,
+                            .length = piece}, NULL, NULL);
+    else
+      got = plain_call(&(detio_call){.kind = at < 0 ? DETIO_WRITE : DETIO_PWRITE, .descriptor = fd,
+                                     .position = at + (off_t)done}, bytes + done, piece, NULL, 0);
+    if (got < 0 && errno == EINTR && !f->nonblock) continue;
+    if (got < 0) return done ? (ssize_t)done : -1;
+    done += (size_t)got;
+    if ((size_t)got < piece && (f->nonblock || f->kind == MEMORY || f->kind == HOST)) break;
+  } while (done < count);
+  return (ssize_t)done;
+}
+EXPORT ssize_t write(int fd, const void *bytes, size_t count) {
+  NEXT(write);
+  OFF(next(fd, bytes, count));
+  return is_ours(fd) ? writes(fd, bytes, count, -1) : next(fd, bytes, count);
+}
+EXPORT ssize_t pwrite(int fd, const void *bytes, size_t count, off_t at) {
+  NEXT(pwrite);
+  OFF(next(fd, bytes, count, at));
+  if (is_ours(fd) && at < 0) return errno = EINVAL, -1;
+  return is_ours(fd) ? writes(fd, bytes, count, at) : next(fd, bytes, count, at);
+}
+EXPORT ssize_t pwrite64(int fd, const void *bytes, size_t count, off_t at) { return pwrite(fd, bytes, count, at); }
+
+/* Of several buffers one call each, until one moves less than was asked. */
+#define EACH(one)                                        \
+  ssize_t moved = 0;                                     \
+  for (int i = 0; i < count; i++) {                      \
+    ssize_t n = one;                                     \
+    if (n < 0) return moved ? moved : n;                 \
+    moved += n;                                          \
+    if ((size_t)n < parts[i].iov_len) break;             \
+  }                                                      \
+  return moved
+EXPORT ssize_t readv(int fd, const struct iovec *parts, int count) {
+  NEXT(readv);
+  OFF(next(fd, parts, count));
+  if (!is_ours(fd)) return next(fd, parts, count);
+  EACH(read(fd, parts[i].iov_base, parts[i].iov_len));
+}
+EXPORT ssize_t preadv(int fd, const struct iovec *parts, int count, off_t at) {
+  NEXT(preadv);
+  OFF(next(fd, parts, count, at));
+  if (!is_ours(fd)) return next(fd, parts, count, at);
+  EACH(pread(fd, parts[i].iov_base, parts[i].iov_len, at + moved));
+}
+EXPORT ssize_t preadv64(int fd, const struct iovec *parts, int count, off_t at) { return preadv(fd, parts, count, at); }
+EXPORT ssize_t pwritev(int fd, const struct iovec *parts, int count, off_t at) {
+  NEXT(pwritev);
+  OFF(next(fd, parts, count, at));
+  if (!is_ours(fd)) return next(fd, parts, count, at);
+  EACH(pwrite(fd, parts[i].iov_base, parts[i].iov_len, at + moved));
+}
+EXPORT ssize_t pwritev64(int fd, const struct iovec *parts, int count, off_t at) { return pwritev(fd, parts, count, at); }
+/* .. but what is written together stays together. */
+EXPORT ssize_t writev(int fd, const struct iovec *parts, int count) {
+  NEXT(writev);
+  OFF(next(fd, parts, count));
+  if (!is_ours(fd)) return next(fd, parts, count);
+  char bytes[4096];
+  size_t all = 0;
+  for (int i = 0; i < count; i++) all += parts[i].iov_len;
+  if (all <= sizeof bytes) {
+    size_t at = 0;
+    for (int i = 0; i < count; at += parts[i++].iov_len) memcpy(bytes + at, parts[i].iov_base, parts[i].iov_len);
+    return write(fd, bytes, all);
+  }
+  EACH(write(fd, parts[i].iov_base, parts[i].iov_len));
+}
+
+EXPORT off_t lseek(int fd, off_t offset, int whence) {
+  NEXT(lseek);
+  OFF(next(fd, offset, whence));
+  if (!is_ours(fd)) return next(fd, offset, whence);
+  enum kind kind = opened_at(fd)->kind;
+  if (kind == STANDARD || kind == STREAM || kind == SOCKET) return errno = ESPIPE, -1;
+  if (whence > SEEK_END) return errno = EINVAL, -1; /* SEEK_DATA, SEEK_HOLE */
+  return plain_call(&(detio_call){.kind = DETIO_LSEEK, .descriptor = fd, .number = offset, .choice = (uint32_t)whence},
+                    NULL, 0, NULL, 0);
+}
+EXPORT off_t lseek64(int fd, off_t offset, int whence) { return lseek(fd, offset, whence); }
+
+/* What the host does to an open file. In memory it has no effect, where it has one outside alone. */
+static int on_host(int fd, enum ask what, int64_t a, int64_t b) {
+  const opened_file *f = opened_at(fd);
+  if (f->kind == NONE) return errno = EBADF, -1;
+  if (f->kind != HOST) return 0;
+  return (int)ask(&(question){.what = what, .at = f->real, .a = a, .b = b}, NULL, NULL);
+}
+EXPORT int ftruncate(int fd, off_t size) {
+  NEXT(ftruncate);
+  OFF(next(fd, size));
+  if (!is_ours(fd)) return next(fd, size);
+  return opened_at(fd)->kind == HOST ? on_host(fd, ASK_FTRUNCATE, size, 0) : (int)call_on(fd, DETIO_FTRUNCATE, size);
+}
+EXPORT int ftruncate64(int fd, off_t size) { return ftruncate(fd, size); }
+EXPORT int posix_fallocate(int fd, off_t from, off_t count) {
+  NEXT(posix_fallocate);
+  OFF(next(fd, from, count));
+  if (!is_ours(fd)) return next(fd, from, count);
+  int kept = errno, r = on_host(fd, ASK_FALLOCATE, from, count), error = errno;
+  errno = kept;
+  return r ? error : 0;
+}
+EXPORT int posix_fallocate64(int fd, off_t from, off_t count) { return posix_fallocate(fd, from, count); }
+EXPORT int fallocate(int fd, int how, off_t from, off_t count) {
+  NEXT(fallocate);
+  OFF(next(fd, how, from, count));
+  if (!is_ours(fd)) return next(fd, how, from, count);
+  return how ? (errno = EOPNOTSUPP, -1) : on_host(fd, ASK_FALLOCATE, from, count);
+}
+EXPORT int fallocate64(int fd, int how, off_t from, off_t count) { return fallocate(fd, how, from, count); }
+#define ON_HOST(name, given, passed, what, a, b)  \
+  EXPORT int name given {                         \
+    NEXT(name);                                   \
+    OFF(next passed);                             \
+    if (!is_ours(fd)) return next passed;         \
+    return on_host(fd, what, a, b);               \
+  }
+ON_HOST(fsync, (int fd), (fd), ASK_FSYNC, 0, 0)
+ON_HOST(fdatasync, (int fd), (fd), ASK_FSYNC, 1, 0)
+ON_HOST(syncfs, (int fd), (fd), ASK_FSYNC, 0, 0)
+ON_HOST(fchmod, (int fd, mode_t mode), (fd, mode), ASK_FCHMOD, mode, 0)
+ON_HOST(fchown, (int fd, uid_t user, gid_t group), (fd, user, group), ASK_FCHOWN, user, group)
+/* A lock that waits is asked for again each 2 milliseconds, so that it holds nobody up. */
+static void wait_a_little(void) { (void)poll(NULL, 0, 2); }
+EXPORT int flock(int fd, int how) {
+  NEXT(flock);
+  OFF(next(fd, how));
+  if (!is_ours(fd)) return next(fd, how);
+  for (;;) {
+    int r = on_host(fd, ASK_FLOCK, how, 0);
+    if (!r || errno != EWOULDBLOCK || (how & LOCK_NB)) return r;
+    wait_a_little();
+  }
+}
+EXPORT int posix_fadvise(int fd, off_t from, off_t count, int how) {
+  NEXT(posix_fadvise);
+  OFF(next(fd, from, count, how));
+  return is_ours(fd) ? 0 : next(fd, from, count, how);
+}
+EXPORT int posix_fadvise64(int fd, off_t from, off_t count, int how) { return posix_fadvise(fd, from, count, how); }
+EXPORT ssize_t readahead(int fd, off64_t from, size_t count) {
+  NEXT(readahead);
+  OFF(next(fd, from, count));
+  return is_ours(fd) ? 0 : next(fd, from, count);
+}
+
+/* What the kernel copies from file to file is read and written. */
+EXPORT ssize_t sendfile(int to, int from, off_t *at, size_t count) {
+  NEXT(sendfile);
+  OFF(next(to, from, at, count));
+  if (!is_ours(to) && !is_ours(from)) return next(to, from, at, count);
+  char bytes[16384];
+  size_t done = 0;
+  while (done < count) {
+    size_t piece = count - done < sizeof bytes ? count - done : sizeof bytes;
+    ssize_t n = at ? pread(from, bytes, piece, *at) : read(from, bytes, piece);
+    if (n > 0) n = write(to, bytes, (size_t)n);
+    if (n < 0) return done ? (ssize_t)done : -1;
+    if (n == 0) break;
+    if (at) *at += n;
+    done += (size_t)n;
+  }
+  return (ssize_t)done;
+}
+EXPORT ssize_t sendfile64(int to, int from, off_t *at, size_t count) { return sendfile(to, from, at, count); }
+EXPORT ssize_t copy_file_range(int from, off64_t *a, int to, off64_t *b, size_t count, unsigned flags) {
+  NEXT(copy_file_range);
+  OFF(next(from, a, to, b, count, flags));
+  if (!is_ours(from) && !is_ours(to)) return next(from, a, to, b, count, flags);
+  return errno = ENOSYS, -1; /* programs go on by read and write */
+}
+EXPORT ssize_t splice(int from, off64_t *a, int to, off64_t *b, size_t count, unsigned flags) {
+  NEXT(splice);
+  OFF(next(from, a, to, b, count, flags));
+  if (!is_ours(from) && !is_ours(to)) return next(from, a, to, b, count, flags);
+  return errno = EINVAL, -1;
+}
+
+/* Numbers. */
+static int refers_too(int fd, int to) {
+  if (to >= 0) refer(to, opened_at(fd)->kind == NONE ? NULL : numbers[fd]);
+  return to;
+}
+EXPORT int dup(int fd) {
+  NEXT(dup);
+  OFF(next(fd));
+  if (!is_ours(fd)) return next(fd);
+  return fd == ORACLE ? (errno = EBADF, -1) : refers_too(fd, (int)call_on(fd, DETIO_DUP, 0));
+}
+EXPORT int dup2(int fd, int to) {
+  NEXT(dup2);
+  OFF(next(fd, to));
+  if (!is_ours(fd) || !is_ours(to))
+    return is_ours(fd) || is_ours(to) || is_behind(to) ? (errno = EBADF, -1) : next(fd, to);
+  if (fd == ORACLE || to == ORACLE || opened_at(fd)->kind == NONE) return errno = EBADF, -1;
+  enum kind kind = opened_at(to)->kind;
+  if (fd != to && (kind == HOST || kind == STREAM || kind == LISTENER)) (void)close(to); /* the machine keeps doors */
+  int r = (int)call_on(fd, DETIO_DUP2, to);
+  return r < 0 || fd == to ? r : refers_too(fd, r);
+}
+EXPORT int dup3(int fd, int to, int flags) {
+  NEXT(dup3);
+  OFF(next(fd, to, flags));
+  if (fd == to) return errno = EINVAL, -1;
+  int r = dup2(fd, to);
+  if (r >= 0 && r < NUMBERS) closes_on_exec[r] = flags & O_CLOEXEC;
+  return r;
+}
+static int set_flags(int fd, long flags) {
+  int r = (int)plain_call(&(detio_call){.kind = DETIO_SETFL, .descriptor = fd,
+                                        .flags = (flags & O_APPEND ? DETIO_APPEND : 0) |
+                                                 (flags & O_NONBLOCK ? DETIO_NONBLOCK : 0)}, NULL, 0, NULL, 0);
+  if (!r) opened_at(fd)->nonblock = flags & O_NONBLOCK;
+  return r;
+}
+static int get_flags(int fd) {
+  int r = (int)call_on(fd, DETIO_GETFL, 0);
+  return r < 0 ? r : (r & 3) | (r & 4 ? O_APPEND : 0) | (r & 8 ? O_NONBLOCK : 0);
+}
+static int lock_record(int fd, int what, struct flock *lock) {
+  bool waits = what == F_SETLKW || what == F_OFD_SETLKW;
+  int how = what == F_SETLKW ? F_SETLK : what == F_OFD_SETLKW ? F_OFD_SETLK : what;
+  if (opened_at(fd)->kind != HOST) return errno = EINVAL, -1;
+  for (;;) {
+    int r = (int)ask(&(question){.what = ASK_LOCKED, .at = opened_at(fd)->real, .a = how, .bytes = lock,
+                                 .length = sizeof *lock, .room = sizeof *lock}, lock, NULL);
+    if (!r || !waits || (errno != EAGAIN && errno != EACCES)) return r;
+    wait_a_little();
+  }
+}
+static int control(int fd, int what, long given) {
+  int r;
+  if (opened_at(fd)->kind == NONE) return errno = EBADF, -1;
+  switch (what) {
+  case F_GETFL: return get_flags(fd);
+  case F_SETFL: return set_flags(fd, given);
+  case F_DUPFD:
+  case F_DUPFD_CLOEXEC:
+    r = refers_too(fd, (int)call_on(fd, DETIO_DUP_FROM, given));
+    if (r >= 0) closes_on_exec[r] = what == F_DUPFD_CLOEXEC;
+    return r;
+  case F_GETFD: return closes_on_exec[fd] ? FD_CLOEXEC : 0;
+  case F_SETFD: return closes_on_exec[fd] = given & FD_CLOEXEC, 0;
+  case F_GETLK: case F_SETLK: case F_SETLKW: case F_OFD_GETLK: case F_OFD_SETLK: case F_OFD_SETLKW:
+    return lock_record(fd, what, (struct flock *)given);
+  default: return errno = EINVAL, -1;
+  }
+}
+#define CONTROLS(name)                               \
+  EXPORT int name(int fd, int what, ...) {           \
+    va_list rest;                                    \
+    va_start(rest, what);                            \
+    long given = va_arg(rest, long);                 \
+    va_end(rest);                                    \
+    NEXT(name);                                      \
+    OFF(next(fd, what, given));                      \
+    return is_ours(fd) ? control(fd, what, given) : next(fd, what, given); \
+  }
+CONTROLS(fcntl)
+CONTROLS(fcntl64)
+EXPORT int ioctl(int fd, unsigned long what, ...) {
+  va_list rest;
+  va_start(rest, what);
+  void *given = va_arg(rest, void *);
+  va_end(rest);
+  NEXT(ioctl);
+  OFF(next(fd, what, given));
+  if (!is_ours(fd)) return next(fd, what, given);
+  const opened_file *f = opened_at(fd);
+  if (f->kind == NONE) return errno = EBADF, -1;
+  if (what == FIOCLEX || what == FIONCLEX) return closes_on_exec[fd] = what == FIOCLEX, 0;
+  if (what == FIONBIO) return set_flags(fd, *(int *)given ? O_NONBLOCK : 0);
+  size_t room = what == TCGETS ? 36 : what == TIOCGWINSZ ? 8 : what == TIOCGPGRP || what == FIONREAD ? 4 : 0;
+  if (!room || f->kind == MEMORY || f->kind == PIPE || f->kind == SOCKET) return errno = ENOTTY, -1;
+  return (int)asks(ASK_IOCTL, f->real, NULL, (int64_t)what, given, room);
+}
+EXPORT int isatty(int fd) {
+  NEXT(isatty);
+  OFF(next(fd));
+  char settings_of_terminal[60];
+  return is_ours(fd) ? ioctl(fd, TCGETS, settings_of_terminal) == 0 : next(fd);
+}
+
+/* Pipes and pairs, in memory. */
+static int make_pair(uint32_t kind, int *fds, int flags) {
+  detio_reply r;
+  make_call(&(detio_call){.kind = kind}, NULL, 0, NULL, 0, &r, NULL, 0);
+  if (r.kind != DETIO_PAIR) return fails(r.error);
+  for (int i = 0; i < 2; i++) {
+    fds[i] = (int)(i ? r.second : r.first);
+    new_opened(fds[i], PIPE, -1);
+    closes_on_exec[fds[i]] = flags & O_CLOEXEC;
+    if (flags & O_NONBLOCK) set_flags(fds[i], O_NONBLOCK);
+  }
+  return 0;
+}
+EXPORT int pipe(int fds[2]) {
+  NEXT(pipe);
+  OFF(next(fds));
+  return make_pair(DETIO_PIPE, fds, 0);
+}
+EXPORT int pipe2(int fds[2], int flags) {
+  NEXT(pipe2);
+  OFF(next(fds, flags));
+  return make_pair(DETIO_PIPE, fds, flags);
+}
+EXPORT int socketpair(int domain, int type, int protocol, int fds[2]) {
+  NEXT(socketpair);
+  OFF(next(domain, type, protocol, fds));
+  if ((type & 15) != 1) return errno = EPROTONOSUPPORT, -1;
+  return make_pair(DETIO_SOCKETPAIR, fds, type & (O_NONBLOCK | O_CLOEXEC));
+}
+
+/* Readiness: of doors. What is in memory counts as ready. */
+static bool is_door(int fd) {
+  const opened_file *f = opened_at(fd);
+  return f->kind == STREAM || f->kind == LISTENER || (f->kind == HOST && f->waits) || f->kind == STANDARD;
+}
+static int poll_all(struct pollfd *fds, nfds_t count, int64_t nanos) {
+  struct pollfd doors[64];
+  int ready = 0;
+  if (count > 64) return errno = EINVAL, -1;
+  for (nfds_t i = 0; i < count; i++) {
+    bool ours = is_ours(fds[i].fd), there = opened_at(fds[i].fd)->kind != NONE;
+    doors[i] = (struct pollfd){ours && is_door(fds[i].fd) ? real_of(fds[i].fd) : -1, fds[i].events, 0};
+    if (fds[i].fd >= 0 && doors[i].fd < 0) ready++;
+    fds[i].revents = fds[i].fd < 0 ? 0 : !there ? POLLNVAL : (short)(fds[i].events & (POLLIN | POLLOUT));
+  }
+  await_doors(doors, count, ready ? 0 : nanos);
+  ready = 0;
+  for (nfds_t i = 0; i < count; i++) {
+    if (is_ours(fds[i].fd) && is_door(fds[i].fd)) fds[i].revents = doors[i].revents;
+    ready += fds[i].revents != 0;
+  }
+  return ready;
+}
+EXPORT int poll(struct pollfd *fds, nfds_t count, int millis) {
+  NEXT(poll);
+  OFF(next(fds, count, millis));
+  return poll_all(fds, count, millis < 0 ? -1 : millis * (int64_t)1000000);
+}
+EXPORT int __poll_chk(struct pollfd *fds, nfds_t count, int millis, size_t room) {
+  if (count * sizeof *fds > room) abort();
+  return poll(fds, count, millis);
+}
+static int64_t nanos_of(const struct timespec *time) {
+  return time ? time->tv_sec * (int64_t)1000000000 + time->tv_nsec : -1;
+}
+EXPORT int ppoll(struct pollfd *fds, nfds_t count, const struct timespec *time, const sigset_t *mask) {
+  NEXT(ppoll);
+  OFF(next(fds, count, time, mask));
+  return poll_all(fds, count, nanos_of(time));
+}
+static int select_all(int count, fd_set *in, fd_set *out, fd_set *other, int64_t nanos) {
+  struct pollfd fds[64];
+  nfds_t n = 0;
+  int ready = 0;
+  for (int fd = 0; fd < count && n < 64; fd++) {
+    short events = (in && FD_ISSET(fd, in) ? POLLIN : 0) | (out && FD_ISSET(fd, out) ? POLLOUT : 0);
+    if (events) fds[n++] = (struct pollfd){fd, events, 0};
+  }
+  if (poll_all(fds, n, nanos) < 0) return -1;
+  if (in) FD_ZERO(in);
+  if (out) FD_ZERO(out);
+  if (other) FD_ZERO(other);
+  for (nfds_t i = 0; i < n; i++) {
+    if (fds[i].revents & POLLNVAL) return errno = EBADF, -1;
+    if (fds[i].events & POLLIN && fds[i].revents & (POLLIN | POLLHUP | POLLERR)) FD_SET(fds[i].fd, in), ready++;
+    if (fds[i].events & POLLOUT && fds[i].revents & (POLLOUT | POLLERR)) FD_SET(fds[i].fd, out), ready++;
+  }
+  return ready;
+}
+EXPORT int select(int count, fd_set *in, fd_set *out, fd_set *other, struct timeval *time) {
+  NEXT(select);
+  OFF(next(count, in, out, other, time));
+  int64_t nanos = time ? time->tv_sec * (int64_t)1000000000 + time->tv_usec * (int64_t)1000 : -1;
+  return select_all(count, in, out, other, nanos);
+}
+EXPORT int pselect(int count, fd_set *in, fd_set *out, fd_set *other, const struct timespec *time, const sigset_t *mask) {
+  NEXT(pselect);
+  OFF(next(count, in, out, other, time, mask));
+  return select_all(count, in, out, other, nanos_of(time));
+}
+
+/* A file of the host that is mapped is read: privately or for reading alone. The system call is made here, since an
+ * allocator may map memory while dlsym runs. */
+static void *map(void *at, size_t length, int prot, int flags, int fd, off_t from) {
+  long r = KERNEL(SYS_mmap, at, length, prot, flags, fd, from);
+  return r < 0 && r > -4096 ? (errno = (int)-r, MAP_FAILED) : (void *)r;
+}
+EXPORT void *mmap(void *at, size_t length, int prot, int flags, int fd, off_t from) {
+  if (!takes_part() || (flags & MAP_ANONYMOUS) || !is_ours(fd)) return map(at, length, prot, flags, fd, from);
+  enum kind kind = opened_at(fd)->kind;
+  if (kind == NONE) return errno = EBADF, MAP_FAILED;
+  if ((kind != HOST && kind != MEMORY) || ((flags & MAP_SHARED) && (prot & PROT_WRITE))) {
+    once("mmap", "a shared mapping of descriptor %d for writing is not covered: refused", fd);
+    return errno = ENODEV, MAP_FAILED;
+  }
+  char *bytes = map(at, length, PROT_READ | PROT_WRITE, (flags & ~MAP_SHARED) | MAP_PRIVATE | MAP_ANONYMOUS, -1, 0);
+  if (bytes == MAP_FAILED) return bytes;
+  for (size_t done = 0; done < length;) {
+    ssize_t n = pread(fd, bytes + done, length - done, from + (off_t)done);
+    if (n < 0) return KERNEL(SYS_munmap, bytes, length), MAP_FAILED;
+    if (n == 0) break;
+    done += (size_t)n;
+  }
+  KERNEL(SYS_mprotect, bytes, length, prot);
+  return bytes;
+}
+EXPORT void *mmap64(void *at, size_t length, int prot, int flags, int fd, off_t from) {
+  return mmap(at, length, prot, flags, fd, from);
+}
+
+/* Standard input is a door; standard output and standard error are places in the table; the oracle has the last number.
+ * Each other number below NATIVE is taken at the host, so that its own numbers begin there. */
+void begin_descriptors(void) {
+  detio_reply r;
+  struct rlimit most;
+  make_call(&(detio_call){.kind = DETIO_HOST_OPEN, .choice = DETIO_READ_WRITE}, "detio:0", 7, NULL, 0, &r, NULL, 0);
+  if (r.kind != DETIO_NUMBER) /* there is no standard input: its number is taken all the same */
+    make_call(&(detio_call){.kind = DETIO_OPEN, .choice = DETIO_READ_WRITE, .flags = DETIO_CREATE}, "/.std", 5, NULL, 0,
+              &r, NULL, 0);
+  int input = slots[0].opened;
+  for (int fd = 1; fd < 3; fd++)
+    make_call(&(detio_call){.kind = DETIO_OPEN, .choice = DETIO_READ_WRITE, .flags = DETIO_CREATE}, "/.std", 5, NULL, 0,
+              &r, NULL, 0);
+  make_call(&(detio_call){.kind = DETIO_HOST_OPEN, .choice = DETIO_READ_ONLY}, "detio:o", 7, NULL, 0, &r, NULL, 0);
+  int64_t low = r.first;
+  make_call(&(detio_call){.kind = DETIO_DUP_FROM, .descriptor = low, .number = ORACLE}, NULL, 0, NULL, 0, &r, NULL, 0);
+  make_call(&(detio_call){.kind = DETIO_CLOSE, .descriptor = low}, NULL, 0, NULL, 0, &r, NULL, 0);
+  if (!KERNEL(SYS_getrlimit, RLIMIT_NOFILE, &most) && most.rlim_cur < NATIVE + 128) {
+    most.rlim_cur = most.rlim_max < NATIVE + 128 ? most.rlim_max : NATIVE + 128;
+    KERNEL(SYS_setrlimit, RLIMIT_NOFILE, &most);
+  }
+  int empty = (int)KERNEL(SYS_open, "/dev/null", O_PATH | O_CLOEXEC, 0);
+  for (int fd = 3; fd < NATIVE; fd++)
+    if (fd != empty && KERNEL(SYS_fcntl, fd, F_GETFD) == -EBADF) KERNEL(SYS_dup3, empty, fd, O_CLOEXEC);
+  int above = (int)KERNEL(SYS_dup, empty);
+  if (above < NATIVE) ends(OURS, "the host has too few descriptors: a run needs more than %d", NATIVE);
+  KERNEL(SYS_close, above);
+  compare_about();
+  int64_t kind = asks(ASK_KIND, input, NULL, 0, NULL, 0);
+  opened_file *f = new_opened(0, kind < 0 ? MEMORY : HOST, input);
+  if (kind >= 0) set_kind(f, kind);
+  for (int fd = 1; fd < 3; fd++) {
+    if (asks(ASK_KIND, fd, NULL, 0, NULL, 0) >= 0) new_opened(fd, STANDARD, fd);
+    else (void)call_on(fd, DETIO_CLOSE, 0);
+  }
+}

@@ -1,0 +1,214 @@
+/* Processes and signals: what a thread waits for, what it sends, how the process ends, and what the run does not cover. */
+#define _GNU_SOURCE
+#include "preload.h"
+
+#include <fcntl.h>
+#include <signal.h>
+#include <spawn.h>
+#include <stdio.h>
+#include <stdlib.h>
+#include <string.h>
+#include <sys/syscall.h>
+#include <sys/wait.h>
+#include <unistd.h>
+
+/* Waits for signals are waits for the outside. */
+typedef struct { const sigset_t *set; const struct timespec *time; int16_t number; bool suspends; } signals;
+static void wait_signal(void *given) {
+  signals *w = given;
+  long r = w->suspends ? KERNEL(SYS_rt_sigsuspend, w->set, 8) : KERNEL(SYS_rt_sigtimedwait, w->set, NULL, w->time, 8);
+  w->number = (int16_t)(r == -EAGAIN ? -EAGAIN : r == -EINTR ? -EINTR : r);
+}
+/* Of a rerun, a signal that a thread of the run sent is pending: it is taken as the wait took it. */
+static void take_again(const signals *w) {
+  static const struct timespec now = {0, 0};
+  if (!run.replays) return;
+  if (w->suspends) KERNEL(SYS_ppoll, NULL, 0, &now, w->set, 8);
+  else if (w->number > 0) KERNEL(SYS_rt_sigtimedwait, w->set, NULL, &now, 8);
+}
+static int await_signal(signals *w) {
+  turn();
+  wait_outside(wait_signal, w, &w->number, 1);
+  take_again(w);
+  return w->number;
+}
+EXPORT int sigwait(const sigset_t *set, int *number) {
+  NEXT(sigwait);
+  OFF(next(set, number));
+  signals w = {.set = set};
+  int got;
+  do got = await_signal(&w); while (got == -EINTR);
+  *number = got;
+  return got < 0 ? -got : 0;
+}
+EXPORT int sigtimedwait(const sigset_t *set, siginfo_t *about, const struct timespec *time) {
+  NEXT(sigtimedwait);
+  OFF(next(set, about, time));
+  signals w = {.set = set, .time = time};
+  int got = await_signal(&w);
+  if (got < 0) return errno = -got, -1;
+  if (about) memset(about, 0, sizeof *about), about->si_signo = got;
+  return got;
+}
+EXPORT int sigwaitinfo(const sigset_t *set, siginfo_t *about) { return sigtimedwait(set, about, NULL); }
+EXPORT int sigsuspend(const sigset_t *set) {
+  NEXT(sigsuspend);
+  OFF(next(set));
+  signals w = {.set = set, .suspends = true};
+  (void)await_signal(&w);
+  return errno = EINTR, -1;
+}
+EXPORT int pause(void) {
+  sigset_t set;
+  (void)pthread_sigmask(SIG_BLOCK, NULL, &set);
+  return sigsuspend(&set);
+}
+EXPORT int sigpending(sigset_t *set) {
+  NEXT(sigpending);
+  OFF(next(set));
+  memset(set, 0, sizeof *set);
+  return (int)asks(ASK_SIGNALS, 0, NULL, 0, set, 8);
+}
+
+/* A signal to this process is sent in a rerun too, by its number there; one to another process is an outcome. */
+EXPORT int kill(pid_t to, int number) {
+  NEXT(kill);
+  OFF(next(to, number));
+  if (to != getpid()) return (int)ask(&(question){.what = ASK_KILL, .a = to, .b = number}, NULL, NULL);
+  long r = KERNEL(SYS_kill, KERNEL(SYS_getpid, 0), number);
+  return r < 0 ? (errno = (int)-r, -1) : 0;
+}
+EXPORT int raise(int number) {
+  long r = KERNEL(SYS_tgkill, KERNEL(SYS_getpid, 0), KERNEL(SYS_gettid, 0), number);
+  return r < 0 ? (errno = (int)-r, -1) : 0;
+}
+
+/* The process ends at a turn. */
+EXPORT _Noreturn void _exit(int status) {
+  finish_run();
+  KERNEL(SYS_exit_group, status);
+  __builtin_unreachable();
+}
+EXPORT _Noreturn void _Exit(int status) { _exit(status); }
+EXPORT _Noreturn void quick_exit(int status) {
+  static void (*next)(int);
+  if (!next) next = (void (*)(int))dlsym(RTLD_NEXT, "quick_exit");
+  finish_run();
+  next(status);
+  __builtin_unreachable();
+}
+
+/* Other processes, which one log is not about. In a recording a child goes on without us; a rerun starts none. */
+static void in_child(void) {
+  on = false;
+  me = -1;
+}
+void begin_processes(void) { (void)pthread_atfork(NULL, NULL, in_child); }
+static bool starts_none(const char *call) {
+  if (run.replays) once("children", "%s: a rerun starts no other process: refused", call);
+  else once("children", "%s: what another process does is not recorded", call);
+  return run.replays;
+}
+EXPORT pid_t fork(void) {
+  NEXT(fork);
+  OFF(next());
+  if (starts_none("fork")) return errno = ENOSYS, -1;
+  inside++;
+  pid_t child = next();
+  inside--;
+  return child;
+}
+EXPORT pid_t vfork(void) { return fork(); }
+EXPORT pid_t _Fork(void) { return fork(); }
+/* A command is outside: what it says through a pipe, and its status, are outcomes. */
+static long run_command(const void *command) {
+  static int (*next)(const char *);
+  if (!next) next = (int (*)(const char *))dlsym(RTLD_NEXT, "system");
+  return next(command);
+}
+EXPORT int system(const char *command) {
+  NEXT(system);
+  OFF(next(command));
+  if (!command) return 1;
+  once("system", "system: what a command does is not recorded, but its status");
+  return (int)ask(&(question){.what = ASK_CHILD, .b = (intptr_t)run_command, .bytes = command, .length = strlen(command) + 1},
+                  NULL, NULL);
+}
+
+enum { COMMANDS = 16 };
+static struct { FILE *ours, *real; } commands[COMMANDS];
+EXPORT FILE *popen(const char *command, const char *how) {
+  static FILE *(*next)(const char *, const char *);
+  if (!next) next = (FILE * (*)(const char *, const char *))dlsym(RTLD_NEXT, "popen");
+  OFF(next(command, how));
+  int i = 0;
+  while (i < COMMANDS && commands[i].ours) i++;
+  if (i == COMMANDS) return errno = EMFILE, NULL;
+  inside++;
+  FILE *real = run.replays ? NULL : next(command, how);
+  inside--;
+  int fd = takes_door(real ? fileno_unlocked(real) : -1);
+  FILE *ours = fd < 0 ? NULL : new_stream(fd, *how == 'w' ? "w" : "r");
+  if (ours) commands[i].ours = ours, commands[i].real = real;
+  return ours;
+}
+static long end_command(const void *at) {
+  static int (*next)(FILE *);
+  if (!next) next = (int (*)(FILE *))dlsym(RTLD_NEXT, "pclose");
+  return next(*(FILE *const *)at);
+}
+EXPORT int pclose(FILE *file) {
+  static int (*next)(FILE *);
+  if (!next) next = (int (*)(FILE *))dlsym(RTLD_NEXT, "pclose");
+  OFF(next(file));
+  for (int i = 0; i < COMMANDS; i++) {
+    if (!file || commands[i].ours != file) continue;
+    (void)fclose(file);
+    commands[i].ours = NULL;
+    return (int)ask(&(question){.what = ASK_CHILD, .a = 1, .b = (intptr_t)end_command, .bytes = &commands[i].real}, NULL, NULL);
+  }
+  return next(file);
+}
+#define SPAWNS(name)                                                                                          \
+  EXPORT int name(pid_t *child, const char *path, const posix_spawn_file_actions_t *actions,                  \
+                  const posix_spawnattr_t *attr, char *const arguments[], char *const variables[]) {          \
+    NEXT(name);                                                                                               \
+    OFF(next(child, path, actions, attr, arguments, variables));                                              \
+    return starts_none(#name) ? ENOSYS : next(child, path, actions, attr, arguments, variables);              \
+  }
+SPAWNS(posix_spawn)
+SPAWNS(posix_spawnp)
+#define EXECUTES(name, given, passed)                                  \
+  EXPORT int name given {                                              \
+    NEXT(name);                                                        \
+    OFF(next passed);                                                  \
+    return starts_none(#name) ? (errno = ENOSYS, -1) : next passed;    \
+  }
+EXECUTES(execve, (const char *p, char *const a[], char *const e[]), (p, a, e))
+EXECUTES(execv, (const char *p, char *const a[]), (p, a))
+EXECUTES(execvp, (const char *p, char *const a[]), (p, a))
+EXECUTES(execvpe, (const char *p, char *const a[], char *const e[]), (p, a, e))
+EXECUTES(fexecve, (int f, char *const a[], char *const e[]), (f, a, e))
+
+/* What makes descriptors that the machine does not have: refused, in a run and in a rerun. */
+#define MAKES(name, given, passed)                               \
+  EXPORT int name given {                                        \
+    static int(*next) given;                                     \
+    if (!next) next = (int(*) given)dlsym(RTLD_NEXT, #name);     \
+    OFF(next passed);                                            \
+    once(#name, "%s is not covered: refused", #name);            \
+    return errno = ENOSYS, -1;                                   \
+  }
+MAKES(epoll_create, (int n), (n))
+MAKES(epoll_create1, (int flags), (flags))
+MAKES(eventfd, (unsigned value, int flags), (value, flags))
+MAKES(timerfd_create, (int clock, int flags), (clock, flags))
+MAKES(signalfd, (int fd, const sigset_t *set, int flags), (fd, set, flags))
+MAKES(inotify_init, (void), ())
+MAKES(inotify_init1, (int flags), (flags))
+MAKES(fanotify_init, (unsigned flags, unsigned how), (flags, how))
+MAKES(memfd_create, (const char *name, unsigned flags), (name, flags))
+MAKES(shm_open, (const char *name, int how, mode_t mode), (name, how, mode))
+MAKES(shm_unlink, (const char *name), (name))
+MAKES(mount, (const char *a, const char *b, const char *c, unsigned long d, const void *e), (a, b, c, d, e))
+MAKES(pidfd_open, (pid_t pid, unsigned flags), (pid, flags))

@@ -1,0 +1,244 @@
+/* Sockets: TCP at 127.0.0.1. A number is a file in memory until it has an address or is connected. */
+#define _GNU_SOURCE
+#include "preload.h"
+
+#include <arpa/inet.h>
+#include <fcntl.h>
+#include <netinet/in.h>
+#include <poll.h>
+#include <stdlib.h>
+#include <string.h>
+#include <sys/socket.h>
+#include <sys/uio.h>
+#include <unistd.h>
+
+EXPORT int socket(int domain, int type, int protocol) {
+  NEXT(socket);
+  OFF(next(domain, type, protocol));
+  if (domain != AF_INET || (type & 15) != SOCK_STREAM) {
+    once("socket", "sockets of family %d and type %d are not covered: refused", domain, type & 15);
+    return errno = EAFNOSUPPORT, -1;
+  }
+  int fd = (int)plain_call(&(detio_call){.kind = DETIO_OPEN, .choice = DETIO_READ_WRITE, .flags = DETIO_CREATE},
+                           "/.socket", 8, NULL, 0);
+  if (fd < 0) return fd;
+  new_opened(fd, SOCKET, -1);
+  if (type & SOCK_NONBLOCK) (void)fcntl(fd, F_SETFL, O_NONBLOCK);
+  if (type & SOCK_CLOEXEC) (void)fcntl(fd, F_SETFD, FD_CLOEXEC);
+  return fd;
+}
+
+/* A door takes the place of a socket at its number. */
+static int becomes(int fd, const detio_call *call, enum kind kind) {
+  opened_file *f = opened_at(fd);
+  bool nonblock = f->nonblock;
+  int door = (int)plain_call(call, NULL, 0, NULL, 0), real = slots[me].opened;
+  if (door < 0) return -1;
+  (void)plain_call(&(detio_call){.kind = DETIO_DUP2, .descriptor = door, .number = fd}, NULL, 0, NULL, 0);
+  (void)plain_call(&(detio_call){.kind = DETIO_CLOSE, .descriptor = door}, NULL, 0, NULL, 0);
+  f->kind = kind;
+  f->real = real;
+  f->nonblock = false;
+  if (nonblock) (void)fcntl(fd, F_SETFL, O_NONBLOCK);
+  return 0;
+}
+
+static bool is_loopback(const struct sockaddr_in *to) { return ntohl(to->sin_addr.s_addr) >> 24 == 127; }
+
+EXPORT int bind(int fd, const struct sockaddr *to, socklen_t length) {
+  NEXT(bind);
+  OFF(next(fd, to, length));
+  if (!is_ours(fd)) return next(fd, to, length);
+  const struct sockaddr_in *in = (const struct sockaddr_in *)to;
+  opened_file *f = opened_at(fd);
+  if (f->kind != SOCKET) return errno = f->kind == NONE ? EBADF : EINVAL, -1;
+  if (length < sizeof *in || in->sin_family != AF_INET) return errno = EAFNOSUPPORT, -1;
+  if (in->sin_addr.s_addr == htonl(INADDR_ANY))
+    once("any", "a server of all addresses listens at 127.0.0.1 alone");
+  else if (!is_loopback(in)) return errno = EADDRNOTAVAIL, -1;
+  /* Its port is asked for at once, and so it listens from here on. */
+  return becomes(fd, &(detio_call){.kind = DETIO_TCP_LISTEN, .number = ntohs(in->sin_port)}, LISTENER);
+}
+EXPORT int listen(int fd, int count) {
+  NEXT(listen);
+  OFF(next(fd, count));
+  if (!is_ours(fd)) return next(fd, count);
+  opened_file *f = opened_at(fd);
+  if (f->kind == LISTENER) return 0;
+  if (f->kind != SOCKET) return errno = f->kind == NONE ? EBADF : EOPNOTSUPP, -1;
+  return becomes(fd, &(detio_call){.kind = DETIO_TCP_LISTEN}, LISTENER);
+}
+EXPORT int connect(int fd, const struct sockaddr *to, socklen_t length) {
+  NEXT(connect);
+  OFF(next(fd, to, length));
+  if (!is_ours(fd)) return next(fd, to, length);
+  const struct sockaddr_in *in = (const struct sockaddr_in *)to;
+  enum kind kind = opened_at(fd)->kind;
+  if (kind != SOCKET) return errno = kind == NONE ? EBADF : EISCONN, -1;
+  if (length < sizeof *in || in->sin_family != AF_INET) return errno = EAFNOSUPPORT, -1;
+  if (!is_loopback(in)) {
+    once("connect", "a connection to another host than this one is not covered: refused");
+    return errno = ENETUNREACH, -1;
+  }
+  return becomes(fd, &(detio_call){.kind = DETIO_TCP_CONNECT, .number = ntohs(in->sin_port)}, STREAM);
+}
+
+/* The address of a socket, or of its peer, as the host has it. */
+static int address_of(int fd, enum ask what, struct sockaddr *to, socklen_t *length) {
+  uint8_t bytes[128];
+  size_t there = 0;
+  const opened_file *f = opened_at(fd);
+  struct sockaddr_in in = {.sin_family = AF_INET};
+  if (f->kind == NONE) return errno = EBADF, -1;
+  if (f->kind == SOCKET || f->kind == PIPE) {
+    if (what == ASK_PEERNAME && f->kind == SOCKET) return errno = ENOTCONN, -1;
+    if (f->kind == PIPE) in.sin_family = AF_UNIX;
+    memcpy(bytes, &in, there = f->kind == PIPE ? sizeof(sa_family_t) : sizeof in);
+  } else if (f->kind == STREAM || f->kind == LISTENER) {
+    if (ask(&(question){.what = what, .at = f->real, .room = sizeof bytes}, bytes, &there) < 0) return -1;
+  } else {
+    return errno = ENOTSOCK, -1;
+  }
+  if (!to || !length) return 0;
+  memcpy(to, bytes, there < *length ? there : *length);
+  *length = (socklen_t)there;
+  return 0;
+}
+EXPORT int getsockname(int fd, struct sockaddr *to, socklen_t *length) {
+  NEXT(getsockname);
+  OFF(next(fd, to, length));
+  return is_ours(fd) ? address_of(fd, ASK_SOCKNAME, to, length) : next(fd, to, length);
+}
+EXPORT int getpeername(int fd, struct sockaddr *to, socklen_t *length) {
+  NEXT(getpeername);
+  OFF(next(fd, to, length));
+  return is_ours(fd) ? address_of(fd, ASK_PEERNAME, to, length) : next(fd, to, length);
+}
+
+EXPORT int accept4(int fd, struct sockaddr *from, socklen_t *length, int flags) {
+  NEXT(accept4);
+  OFF(next(fd, from, length, flags));
+  if (!is_ours(fd)) return next(fd, from, length, flags);
+  int got;
+  do {
+    wait_for_door(fd, POLLIN);
+    got = (int)plain_call(&(detio_call){.kind = DETIO_TCP_ACCEPT, .descriptor = fd}, NULL, 0, NULL, 0);
+  } while (got < 0 && errno == EINTR);
+  if (got < 0) return got;
+  new_opened(got, STREAM, slots[me].opened);
+  if (flags & SOCK_NONBLOCK) (void)fcntl(got, F_SETFL, O_NONBLOCK);
+  if (flags & SOCK_CLOEXEC) (void)fcntl(got, F_SETFD, FD_CLOEXEC);
+  if (from && length) (void)address_of(got, ASK_PEERNAME, from, length);
+  return got;
+}
+EXPORT int accept(int fd, struct sockaddr *from, socklen_t *length) {
+  NEXT(accept);
+  OFF(next(fd, from, length));
+  return accept4(fd, from, length, 0);
+}
+EXPORT int shutdown(int fd, int how) {
+  NEXT(shutdown);
+  OFF(next(fd, how));
+  if (!is_ours(fd)) return next(fd, how);
+  return (int)plain_call(&(detio_call){.kind = DETIO_SHUTDOWN, .descriptor = fd, .choice = (uint32_t)how}, NULL, 0, NULL, 0);
+}
+
+static bool is_socket(int fd) {
+  enum kind kind = opened_at(fd)->kind;
+  if (kind == NONE) return errno = EBADF, false;
+  if (kind == STREAM || kind == PIPE || kind == LISTENER || kind == SOCKET) return true;
+  return errno = ENOTSOCK, false;
+}
+EXPORT ssize_t recv(int fd, void *bytes, size_t count, int flags) {
+  NEXT(recv);
+  OFF(next(fd, bytes, count, flags));
+  if (!is_ours(fd)) return next(fd, bytes, count, flags);
+  if (!is_socket(fd)) return -1;
+  if (flags & ~(MSG_NOSIGNAL | MSG_DONTWAIT | MSG_WAITALL | MSG_CMSG_CLOEXEC)) {
+    once("recv", "recv with flags %d is not covered: refused", flags);
+    return errno = EOPNOTSUPP, -1;
+  }
+  size_t done = 0;
+  bool nonblock = opened_at(fd)->nonblock;
+  if ((flags & MSG_DONTWAIT) && !nonblock) (void)fcntl(fd, F_SETFL, O_NONBLOCK);
+  for (ssize_t n = 1; done < count && n > 0; done += (size_t)n) {
+    n = read(fd, (char *)bytes + done, count - done);
+    if (n < 0 && !done) done = SIZE_MAX;
+    if (n < 0 || !(flags & MSG_WAITALL)) { done += n > 0 ? (size_t)n : 0; break; }
+  }
+  if ((flags & MSG_DONTWAIT) && !nonblock) (void)fcntl(fd, F_SETFL, 0);
+  return done == SIZE_MAX ? -1 : (ssize_t)done;
+}
+EXPORT ssize_t __recv_chk(int fd, void *bytes, size_t count, size_t room, int flags) {
+  if (count > room) abort();
+  return recv(fd, bytes, count, flags);
+}
+EXPORT ssize_t recvfrom(int fd, void *bytes, size_t count, int flags, struct sockaddr *from, socklen_t *length) {
+  NEXT(recvfrom);
+  OFF(next(fd, bytes, count, flags, from, length));
+  if (!is_ours(fd)) return next(fd, bytes, count, flags, from, length);
+  if (from && length) *length = 0;
+  return recv(fd, bytes, count, flags);
+}
+EXPORT ssize_t __recvfrom_chk(int fd, void *bytes, size_t count, size_t room, int flags, struct sockaddr *from,
+                              socklen_t *length) {
+  if (count > room) abort();
+  return recvfrom(fd, bytes, count, flags, from, length);
+}
+EXPORT ssize_t send(int fd, const void *bytes, size_t count, int flags) {
+  NEXT(send);
+  OFF(next(fd, bytes, count, flags));
+  if (!is_ours(fd)) return next(fd, bytes, count, flags);
+  return is_socket(fd) ? write(fd, bytes, count) : -1;
+}
+EXPORT ssize_t sendto(int fd, const void *bytes, size_t count, int flags, const struct sockaddr *to, socklen_t length) {
+  NEXT(sendto);
+  OFF(next(fd, bytes, count, flags, to, length));
+  if (!is_ours(fd)) return next(fd, bytes, count, flags, to, length);
+  return send(fd, bytes, count, flags);
+}
+EXPORT ssize_t recvmsg(int fd, struct msghdr *message, int flags) {
+  NEXT(recvmsg);
+  OFF(next(fd, message, flags));
+  if (!is_ours(fd)) return next(fd, message, flags);
+  message->msg_namelen = 0;
+  message->msg_controllen = 0;
+  message->msg_flags = 0;
+  ssize_t all = 0;
+  for (size_t i = 0; i < message->msg_iovlen; i++) {
+    ssize_t n = recv(fd, message->msg_iov[i].iov_base, message->msg_iov[i].iov_len, flags);
+    if (n < 0) return all ? all : n;
+    all += n;
+    if ((size_t)n < message->msg_iov[i].iov_len) break;
+  }
+  return all;
+}
+EXPORT ssize_t sendmsg(int fd, const struct msghdr *message, int flags) {
+  NEXT(sendmsg);
+  OFF(next(fd, message, flags));
+  if (!is_ours(fd)) return next(fd, message, flags);
+  if (message->msg_controllen) return errno = EOPNOTSUPP, -1;
+  return is_socket(fd) ? writev(fd, message->msg_iov, (int)message->msg_iovlen) : -1;
+}
+
+/* Options: a socket of ours has none, but says what it is. */
+EXPORT int setsockopt(int fd, int level, int option, const void *value, socklen_t length) {
+  NEXT(setsockopt);
+  OFF(next(fd, level, option, value, length));
+  if (!is_ours(fd)) return next(fd, level, option, value, length);
+  return is_socket(fd) ? 0 : -1;
+}
+EXPORT int getsockopt(int fd, int level, int option, void *value, socklen_t *length) {
+  NEXT(getsockopt);
+  OFF(next(fd, level, option, value, length));
+  if (!is_ours(fd)) return next(fd, level, option, value, length);
+  if (!is_socket(fd)) return -1;
+  int is = option == SO_TYPE ? SOCK_STREAM
+           : option == SO_DOMAIN ? (opened_at(fd)->kind == PIPE ? AF_UNIX : AF_INET)
+           : option == SO_ACCEPTCONN ? opened_at(fd)->kind == LISTENER
+           : option == SO_RCVBUF || option == SO_SNDBUF ? 65536 : 0;
+  memset(value, 0, *length);
+  memcpy(value, &is, *length < sizeof is ? *length : sizeof is);
+  if (*length > sizeof is) *length = sizeof is;
+  return 0;
+}
