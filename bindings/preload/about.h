@@ -1,4 +1,5 @@
-/* What a log says of its program: entries `key=value`, each ended by a NUL. Its first answers of the oracle have them. */
+/* What a log says of its program: entries `key=value`, each ended by a NUL. Its first answers of the oracle have them.
+ */
 #ifndef DETIO_ABOUT_H
 #define DETIO_ABOUT_H
 
@@ -22,7 +23,8 @@ const char *first_value(const entries *, const char *key);
 /* The entries in a log: whether they are there as a whole. */
 bool about_in_log(const uint8_t *log, size_t length, entries *);
 
-/* Where two lists of entries differ first, among those of these keys (ended by NULL): false where they do not. `*one` and
+/* Where two lists of entries differ first, among those of these keys (ended by NULL): false where they do not. `*one`
+ * and
  * `*other` are the entries there, or NULL after the last. Variables may stand in another order. */
 bool first_difference(const entries *, const entries *, const char *const keys[], const char **one, const char **other);
 

@@ -48,10 +48,12 @@ void once(const char *what, const char *format, ...) {
 
 /* The sixteen bytes by chance that the kernel hands a program are the same in each run. */
 static void fix_chance(void) {
-  uint64_t *there = (uint64_t *)getauxval(AT_RANDOM);
-  if (there) there[0] = run.seed + 0x9e3779b97f4a7c15u, there[1] = ~there[0];
+  void *there = (void *)getauxval(AT_RANDOM);
+  uint64_t first = run.seed + 0x9e3779b97f4a7c15u;
+  if (there) memcpy(there, (uint64_t[]){first, ~first}, 16);
 }
 
+bool begun;
 __attribute__((constructor(101))) static void begin(void) {
   if (!getenv("DETIO_RUN")) return;
   inside++;
@@ -63,11 +65,13 @@ __attribute__((constructor(101))) static void begin(void) {
   unsetenv("LD_PRELOAD");
   unsetenv("DETIO_PAD");
   begin_processes();
-  if (run.passes) say("paths below %s%s go to the host and are not recorded", run.passed[0], run.passes > 1 ? " and others" : "");
+  if (run.passes)
+    say("paths below %s%s go to the host and are not recorded", run.passed[0], run.passes > 1 ? " and others" : "");
   if (run.replays) forbid_effects();
   on = true;
   inside--;
   begin_files();
+  begun = true;
 }
 
 __attribute__((destructor)) static void end(void) {

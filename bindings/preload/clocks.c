@@ -105,7 +105,8 @@ EXPORT ssize_t getrandom(void *to, size_t count, unsigned flags) {
   size_t done = 0;
   while (done < count) {
     size_t piece = count - done < PIECE ? count - done : PIECE, n = 0;
-    if (ask(&(question){.what = ASK_RANDOM, .a = flags, .room = piece}, (char *)to + done, &n) < 0) return done ? (ssize_t)done : -1;
+    if (ask(&(question){.what = ASK_RANDOM, .a = flags, .room = piece}, (char *)to + done, &n) < 0)
+      return done ? (ssize_t)done : -1;
     if (!n) break;
     done += n;
   }

@@ -5,6 +5,7 @@
 
 #include <fcntl.h>
 #include <limits.h>
+#include <linux/close_range.h>
 #include <poll.h>
 #include <stdlib.h>
 #include <string.h>
@@ -32,8 +33,8 @@ int real_of(int fd) { return is_ours(fd) && fd != AT_FDCWD ? opened_at(fd)->real
 
 /* Whether a number of the host is behind one of ours, so that the program does not have it. */
 static bool is_behind(int real) {
-  for (int fd = 0; fd < NUMBERS; fd++)
-    if (numbers[fd] && numbers[fd]->kind != STANDARD && numbers[fd]->real == real) return true;
+  for (int fd = 0; real >= NATIVE && fd < NUMBERS; fd++)
+    if (numbers[fd] && numbers[fd]->real == real) return true;
   return false;
 }
 
@@ -65,15 +66,11 @@ static int64_t call_on(int fd, uint32_t kind, int64_t number) {
   return plain_call(&(detio_call){.kind = kind, .descriptor = fd, .number = number}, NULL, 0, NULL, 0);
 }
 
-/* What a number refers to from now on. */
+/* What a number refers to from now on. What it referred to before stays, since a thread may be in a call on it. */
 static void refer(int fd, opened_file *file) {
   if (fd < 0 || fd >= NUMBERS) return;
-  lock_run();
-  if (numbers[fd] && !--numbers[fd]->uses) detio_heap_free(numbers[fd]);
   numbers[fd] = file;
   closes_on_exec[fd] = false;
-  if (file) file->uses++;
-  unlock_run();
 }
 void *new_opened(int fd, enum kind kind, int real) {
   lock_run();
@@ -188,6 +185,7 @@ EXPORT int close(int fd) {
 EXPORT int close_range(unsigned first, unsigned last, int flags) {
   NEXT(close_range);
   OFF(next(first, last, flags));
+  if (first > last || (flags & ~(CLOSE_RANGE_UNSHARE | CLOSE_RANGE_CLOEXEC))) return errno = EINVAL, -1;
   for (unsigned fd = first; fd <= last && fd < NUMBERS; fd++)
     if (fd != ORACLE && numbers[fd]) (void)close((int)fd);
   return 0;
@@ -349,7 +347,9 @@ EXPORT ssize_t pwritev(int fd, const struct iovec *parts, int count, off_t at) {
   if (!is_ours(fd)) return next(fd, parts, count, at);
   EACH(pwrite(fd, parts[i].iov_base, parts[i].iov_len, at + moved));
 }
-EXPORT ssize_t pwritev64(int fd, const struct iovec *parts, int count, off_t at) { return pwritev(fd, parts, count, at); }
+EXPORT ssize_t pwritev64(int fd, const struct iovec *parts, int count, off_t at) {
+  return pwritev(fd, parts, count, at);
+}
 /* .. but what is written together stays together. */
 EXPORT ssize_t writev(int fd, const struct iovec *parts, int count) {
   NEXT(writev);
@@ -382,6 +382,7 @@ EXPORT off_t lseek64(int fd, off_t offset, int whence) { return lseek(fd, offset
 static int on_host(int fd, enum ask what, int64_t a, int64_t b) {
   const opened_file *f = opened_at(fd);
   if (f->kind == NONE) return errno = EBADF, -1;
+  if (what == ASK_FSYNC && f->kind != HOST && f->kind != MEMORY && f->kind != STANDARD) return errno = EINVAL, -1;
   if (f->kind != HOST) return 0;
   return (int)ask(&(question){.what = what, .at = f->real, .a = a, .b = b}, NULL, NULL);
 }
@@ -453,8 +454,11 @@ EXPORT ssize_t sendfile(int to, int from, off_t *at, size_t count) {
   size_t done = 0;
   while (done < count) {
     size_t piece = count - done < sizeof bytes ? count - done : sizeof bytes;
-    ssize_t n = at ? pread(from, bytes, piece, *at) : read(from, bytes, piece);
+    ssize_t n = at ? pread(from, bytes, piece, *at) : read(from, bytes, piece), got = n;
     if (n > 0) n = write(to, bytes, (size_t)n);
+    int error = errno;
+    if (!at && n < got) (void)lseek(from, (n < 0 ? 0 : n) - got, SEEK_CUR); /* what was not taken stays there */
+    errno = error;
     if (n < 0) return done ? (ssize_t)done : -1;
     if (n == 0) break;
     if (at) *at += n;
@@ -501,7 +505,7 @@ EXPORT int dup2(int fd, int to) {
 EXPORT int dup3(int fd, int to, int flags) {
   NEXT(dup3);
   OFF(next(fd, to, flags));
-  if (fd == to) return errno = EINVAL, -1;
+  if (fd == to || (flags & ~O_CLOEXEC)) return errno = EINVAL, -1;
   int r = dup2(fd, to);
   if (r >= 0 && r < NUMBERS) closes_on_exec[r] = flags & O_CLOEXEC;
   return r;
@@ -602,6 +606,7 @@ EXPORT int pipe(int fds[2]) {
 EXPORT int pipe2(int fds[2], int flags) {
   NEXT(pipe2);
   OFF(next(fds, flags));
+  if (flags & ~(O_CLOEXEC | O_NONBLOCK)) return errno = EINVAL, -1;
   return make_pair(DETIO_PIPE, fds, flags);
 }
 EXPORT int socketpair(int domain, int type, int protocol, int fds[2]) {
@@ -676,7 +681,8 @@ EXPORT int select(int count, fd_set *in, fd_set *out, fd_set *other, struct time
   int64_t nanos = time ? time->tv_sec * (int64_t)1000000000 + time->tv_usec * (int64_t)1000 : -1;
   return select_all(count, in, out, other, nanos);
 }
-EXPORT int pselect(int count, fd_set *in, fd_set *out, fd_set *other, const struct timespec *time, const sigset_t *mask) {
+EXPORT int pselect(int count, fd_set *in, fd_set *out, fd_set *other, const struct timespec *time,
+                   const sigset_t *mask) {
   NEXT(pselect);
   OFF(next(count, in, out, other, time, mask));
   return select_all(count, in, out, other, nanos_of(time));
@@ -692,6 +698,7 @@ EXPORT void *mmap(void *at, size_t length, int prot, int flags, int fd, off_t fr
   if (!takes_part() || (flags & MAP_ANONYMOUS) || !is_ours(fd)) return map(at, length, prot, flags, fd, from);
   enum kind kind = opened_at(fd)->kind;
   if (kind == NONE) return errno = EBADF, MAP_FAILED;
+  if (from & 4095) return errno = EINVAL, MAP_FAILED;
   if ((kind != HOST && kind != MEMORY) || ((flags & MAP_SHARED) && (prot & PROT_WRITE))) {
     once("mmap", "a shared mapping of descriptor %d for writing is not covered: refused", fd);
     return errno = ENODEV, MAP_FAILED;

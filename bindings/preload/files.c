@@ -1,5 +1,5 @@
-/* stdio: the C library's own calls go past us, so a FILE of a number of ours is a cookie; and a call on it is made under
- * a lock of its own, which is taken in the order of turns, where other threads are there. */
+/* stdio: the C library's own calls go past us, so a FILE of a number of ours is a cookie; and a call on it is made
+ * under a lock of its own, which is taken in the order of turns, where other threads are there. */
 #define _GNU_SOURCE
 #include "preload.h"
 
@@ -107,6 +107,13 @@ EXPORT FILE *fopen(const char *path, const char *mode) {
   return file;
 }
 EXPORT FILE *fopen64(const char *path, const char *mode) { return fopen(path, mode); }
+/* A FILE may read and write by its mode: these are the C library's marks. */
+static void set_mode(FILE *file, int how) {
+  enum { NO_READS = 4, NO_WRITES = 8 };
+  file->_flags &= ~(NO_READS | NO_WRITES);
+  if ((how & O_ACCMODE) == O_RDONLY) file->_flags |= NO_WRITES;
+  if ((how & O_ACCMODE) == O_WRONLY) file->_flags |= NO_READS;
+}
 EXPORT FILE *freopen(const char *path, const char *mode, FILE *file) {
   NEXT(freopen);
   OFF(next(path, mode, file));
@@ -125,6 +132,7 @@ EXPORT FILE *freopen(const char *path, const char *mode, FILE *file) {
     (void)dup2(fd, s->fd);
     (void)close(fd);
   }
+  set_mode(s->file, how);
   return s->file;
 }
 EXPORT FILE *freopen64(const char *path, const char *mode, FILE *file) { return freopen(path, mode, file); }

@@ -1,5 +1,5 @@
-/* The library's own memory: one reserve of addresses, so that the program's own are the same in a run and a rerun. It is
- * used while the run's lock is held, or before there are other threads. */
+/* The library's own memory: one reserve of addresses, so that the program's own are the same in a run and a rerun. It
+ * is used while the run's lock is held, or before there are other threads. */
 #define _GNU_SOURCE
 #include "preload.h"
 
@@ -14,7 +14,7 @@ typedef struct { size_t power, used; } before;
 
 static char *next_block, *end;
 static void *free_blocks[POWERS];
-size_t heap_used;
+size_t heap_used, heap_limit = SIZE_MAX;
 
 static void reserve(void) {
   for (uint64_t size = RESERVE; size >= 1 << 26; size /= 2) {
@@ -73,7 +73,7 @@ void *detio_heap_calloc(size_t count, size_t size) {
 void *detio_heap_realloc(void *at, size_t size) {
   if (!at) return detio_heap_malloc(size);
   before here = before_of(at);
-  if (size + BEFORE <= (size_t)1 << here.power) {
+  if (size <= ((size_t)1 << here.power) - BEFORE) {
     memcpy((char *)at - BEFORE, &(before){here.power, size}, BEFORE);
     heap_used += size - here.used;
     return at;

@@ -212,7 +212,8 @@ static void read_log(const char *path) {
 /* A rerun is of the program of the log, or of another that is given. */
 static void compare_program(const options *given) {
   static const char *const keys[] = {"program", "argument", "directory", "variable", NULL};
-  static const char *const settings[] = {"threads", "memory", "pass", "seed", "fault", "overlap", "parallel", "fixed", NULL};
+  static const char *const settings[] = {"threads", "memory",   "pass",  "seed", "fault",
+                                         "overlap", "parallel", "fixed", NULL};
   size_t at;
   if (given->words) {
     add_program(given);
@@ -284,13 +285,15 @@ int main(int count, char **words) {
     if (fixed) add_entry(&about, "fixed", "yes");
   }
   const char *program = first_value(&about, "program"), *directory = first_value(&about, "directory");
-  if (!program || !directory || about.full) fails(OURS, "arguments and environment are too long, or the log lacks them");
+  if (!program || !directory || about.full)
+    fails(OURS, "arguments and environment are too long, or the log lacks them");
   look_at(program);
   if (!given.reruns) make_log(&given, path);
   if (!fixed) fputs("detio: the kernel does not fix addresses: a rerun of a program that uses them differs\n", stderr);
   if (given.reruns && chdir(directory)) (void)!chdir("/");
   int settings_file = memfd_create("detio", 0);
-  if (settings_file < 0 || write(settings_file, about.text, about.length) != (ssize_t)about.length || lseek(settings_file, 0, SEEK_SET))
+  if (settings_file < 0 || write(settings_file, about.text, about.length) != (ssize_t)about.length ||
+      lseek(settings_file, 0, SEEK_SET))
     fails(OURS, "the settings cannot be handed over: %s", strerror(errno));
   execve(program, values("argument", 0), variables(settings_file));
   fails(errno == ENOENT ? NOT_FOUND : CANNOT_RUN, "%s cannot be run: %s", program, strerror(errno));

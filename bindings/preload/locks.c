@@ -155,7 +155,8 @@ EXPORT int pthread_cond_broadcast(pthread_cond_t *c) {
   turn_end();
   return 0;
 }
-EXPORT int pthread_cond_clockwait(pthread_cond_t *c, pthread_mutex_t *p, clockid_t clock, const struct timespec *until) {
+EXPORT int pthread_cond_clockwait(pthread_cond_t *c, pthread_mutex_t *p, clockid_t clock,
+                                  const struct timespec *until) {
   NEXT(pthread_cond_clockwait);
   OFF(next(c, p, clock, until));
   mutex *m = (mutex *)p;

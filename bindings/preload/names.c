@@ -1,10 +1,11 @@
-/* Names: below --mem those of the tree in memory, below --pass the host's own, and else what the outside answers. A name
- * may begin at a directory that is open. */
+/* Names: below --mem those of the tree in memory, below --pass the host's own, and else what the outside answers. A
+ * name may begin at a directory that is open. */
 #define _GNU_SOURCE
 #include "preload.h"
 
 #include <dirent.h>
 #include <fcntl.h>
+#include <glob.h>
 #include <limits.h>
 #include <stdio.h>
 #include <stdlib.h>
@@ -74,7 +75,8 @@ static int is_there(const char *m) {
   return 0;
 }
 
-ON_PATH(int, unlink, (const char *p), (p), p, in_tree(DETIO_UNLINK, m), Q(.what = ASK_UNLINK, .at = AT_FDCWD, .path = p))
+ON_PATH(int, unlink, (const char *p), (p), p, in_tree(DETIO_UNLINK, m),
+        Q(.what = ASK_UNLINK, .at = AT_FDCWD, .path = p))
 ON_PATH(int, rmdir, (const char *p), (p), p, in_tree(DETIO_RMDIR, m),
         Q(.what = ASK_UNLINK, .at = AT_FDCWD, .path = p, .a = AT_REMOVEDIR))
 ON_PATH(int, unlinkat, (int at, const char *p, int how), (at, p, how), p,
@@ -179,7 +181,8 @@ EXPORT int futimens(int fd, const struct timespec t[2]) {
   OFF(next(fd, t));
   if (!is_ours(fd)) return next(fd, t);
   if (opened_at(fd)->kind != HOST) return opened_at(fd)->kind == NONE ? (errno = EBADF, -1) : 0;
-  return (int)ask(&(question){.what = ASK_UTIMES, .at = real_of(fd), .bytes = t, .length = t ? 2 * sizeof *t : 0}, NULL, NULL);
+  return (int)ask(&(question){.what = ASK_UTIMES, .at = real_of(fd), .bytes = t, .length = t ? 2 * sizeof *t : 0}, NULL,
+                  NULL);
 }
 EXPORT int futimes(int fd, const struct timeval t[2]) {
   struct timespec times[2];
@@ -193,7 +196,11 @@ static int stat_memory(int fd, struct stat *to) {
   make_call(&(detio_call){.kind = DETIO_FSTAT, .descriptor = fd}, NULL, 0, NULL, 0, &r, NULL, 0);
   if (r.kind == DETIO_FAILURE) return fails(r.error);
   memset(to, 0, sizeof *to);
-  to->st_mode = (opened_at(fd)->kind == SOCKET ? S_IFSOCK : r.first == 1 ? S_IFREG : r.first == 2 ? S_IFIFO : S_IFSOCK) | 0600;
+  to->st_mode = (opened_at(fd)->kind == SOCKET ? S_IFSOCK
+                 : r.first == 1                ? S_IFREG
+                 : r.first == 2                ? S_IFIFO
+                                               : S_IFSOCK) |
+                0600;
   to->st_size = (off_t)r.count;
   to->st_nlink = r.links;
   to->st_blksize = 4096;
@@ -253,7 +260,9 @@ EXPORT int __fxstatat(int v, int at, const char *p, struct stat *to, int f) { re
 EXPORT int __xstat64(int v, const char *p, struct stat64 *to) { return (void)v, stat64(p, to); }
 EXPORT int __lxstat64(int v, const char *p, struct stat64 *to) { return (void)v, lstat64(p, to); }
 EXPORT int __fxstat64(int v, int fd, struct stat64 *to) { return (void)v, fstat64(fd, to); }
-EXPORT int __fxstatat64(int v, int at, const char *p, struct stat64 *to, int f) { return (void)v, fstatat64(at, p, to, f); }
+EXPORT int __fxstatat64(int v, int at, const char *p, struct stat64 *to, int f) {
+  return (void)v, fstatat64(at, p, to, f);
+}
 EXPORT int statx(int at, const char *p, int f, unsigned mask, struct statx *to) {
   NEXT(statx);
   OFF(next(at, p, f, mask, to));
@@ -292,7 +301,8 @@ EXPORT int fstatfs(int fd, struct statfs *to) {
   NEXT(fstatfs);
   OFF(next(fd, to));
   if (!is_ours(fd)) return next(fd, to);
-  return opened_at(fd)->kind != HOST ? (errno = ENOSYS, -1) : (int)asks(ASK_FSTATFS, real_of(fd), NULL, 0, to, sizeof *to);
+  return opened_at(fd)->kind != HOST ? (errno = ENOSYS, -1)
+                                     : (int)asks(ASK_FSTATFS, real_of(fd), NULL, 0, to, sizeof *to);
 }
 EXPORT int fstatfs64(int fd, struct statfs64 *to) { return fstatfs(fd, (struct statfs *)to); }
 static void as_statvfs(const struct statfs *from, struct statvfs *to) {
@@ -330,8 +340,9 @@ EXPORT int fstatvfs64(int fd, struct statvfs64 *to) { return fstatvfs(fd, (struc
 /* Attributes. */
 static ssize_t attribute(enum ask what, int at, const char *p, const char *name, void *to, size_t room, int nofollow) {
   if (room > PIECE) room = PIECE;
-  return ask(&(question){.what = what, .at = at, .path = p, .second = name, .a = (int64_t)room, .b = nofollow, .room = room},
-             to, NULL);
+  return ask(
+      &(question){.what = what, .at = at, .path = p, .second = name, .a = (int64_t)room, .b = nofollow, .room = room},
+      to, NULL);
 }
 #define ATTRIBUTE(name, nofollow)                                                             \
   EXPORT ssize_t name(const char *p, const char *key, void *to, size_t room) {                \
@@ -355,13 +366,15 @@ EXPORT ssize_t fgetxattr(int fd, const char *key, void *to, size_t room) {
   NEXT(fgetxattr);
   OFF(next(fd, key, to, room));
   if (!is_ours(fd)) return next(fd, key, to, room);
-  return opened_at(fd)->kind != HOST ? (errno = ENOTSUP, -1) : attribute(ASK_FGETXATTR, real_of(fd), NULL, key, to, room, 0);
+  return opened_at(fd)->kind != HOST ? (errno = ENOTSUP, -1)
+                                     : attribute(ASK_FGETXATTR, real_of(fd), NULL, key, to, room, 0);
 }
 EXPORT ssize_t flistxattr(int fd, char *to, size_t room) {
   NEXT(flistxattr);
   OFF(next(fd, to, room));
   if (!is_ours(fd)) return next(fd, to, room);
-  return opened_at(fd)->kind != HOST ? (errno = ENOTSUP, -1) : attribute(ASK_FLISTXATTR, real_of(fd), NULL, NULL, to, room, 0);
+  return opened_at(fd)->kind != HOST ? (errno = ENOTSUP, -1)
+                                     : attribute(ASK_FLISTXATTR, real_of(fd), NULL, NULL, to, room, 0);
 }
 
 /* Where we are. */
@@ -380,6 +393,7 @@ EXPORT char *getcwd(char *to, size_t room) {
   NEXT(getcwd);
   OFF(next(to, room));
   char path[PATH_MAX];
+  if (to && !room) return errno = EINVAL, NULL;
   if (asks(ASK_GETCWD, AT_FDCWD, NULL, 0, path, sizeof path) < 0) return NULL;
   if (!to) return strdup(path);
   if (strlen(path) >= room) return errno = ERANGE, NULL;
@@ -434,6 +448,10 @@ static int add_name(char *path, const char *name, size_t length) {
   path[have + 1 + length] = 0;
   return 0;
 }
+static bool is_no_directory(const char *path) {
+  struct stat s;
+  return !stat(path, &s) && !S_ISDIR(s.st_mode);
+}
 /* The path without links, as realpath has it: 0, or -1 with errno. */
 static int resolve(const char *given, char *path) {
   char rest[PATH_MAX], link[PATH_MAX];
@@ -453,6 +471,7 @@ static int resolve(const char *given, char *path) {
     if (!*path) continue;
     ssize_t n = readlink(path, link, sizeof link - 1);
     if (n < 0 && errno != EINVAL) return -1;
+    if (n < 0 && *at && !at[strspn(at, "/.")] && is_no_directory(path)) return errno = ENOTDIR, -1;
     if (n < 0) continue;
     if (++links > 40) return errno = ELOOP, -1;
     if ((size_t)n + strlen(at) + 1 > PATH_MAX) return errno = ENAMETOOLONG, -1;
@@ -644,4 +663,22 @@ EXPORT int scandir64(const char *p, struct dirent64 ***list, int (*takes)(const 
                      int (*order)(const struct dirent64 **, const struct dirent64 **)) {
   return scandir(p, (struct dirent ***)list, (int (*)(const struct dirent *))takes,
                  (int (*)(const struct dirent **, const struct dirent **))order);
+}
+
+/* The C library looks for names by what it is given in place of its own calls: by ours. */
+static void close_listing(void *d) { (void)closedir(d); }
+EXPORT int glob(const char *pattern, int how, int (*fails)(const char *, int), glob_t *to) {
+  NEXT(glob);
+  if (!takes_part() || (how & GLOB_ALTDIRFUNC)) return next(pattern, how, fails, to);
+  to->gl_opendir = (void *(*)(const char *))opendir;
+  to->gl_readdir = (struct dirent * (*)(void *))readdir;
+  to->gl_closedir = close_listing;
+  to->gl_stat = (int (*)(const char *, struct stat *))stat;
+  to->gl_lstat = (int (*)(const char *, struct stat *))lstat;
+  int r = next(pattern, how | GLOB_ALTDIRFUNC, fails, to);
+  to->gl_flags &= ~GLOB_ALTDIRFUNC;
+  return r;
+}
+EXPORT int glob64(const char *pattern, int how, int (*fails)(const char *, int), glob64_t *to) {
+  return glob(pattern, how, fails, (glob_t *)to);
 }

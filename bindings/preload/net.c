@@ -1,5 +1,5 @@
-/* A net below a rerun: the kernel refuses what would reach outside, whoever asks. A rerun's own way past it are writes to
- * standard output and standard error alone. */
+/* A net below a rerun: the kernel refuses what would reach outside, whoever asks. A rerun's own way past it are writes
+ * to standard output and standard error alone. */
 #define _GNU_SOURCE
 #include "preload.h"
 
@@ -22,12 +22,12 @@
 /* Calls that have no place in a rerun at all. */
 static const int forbidden[] = {
     SYS_unlink, SYS_unlinkat, SYS_rename, SYS_renameat, SYS_renameat2, SYS_mkdir, SYS_mkdirat, SYS_rmdir, SYS_link,
-    SYS_linkat, SYS_symlink, SYS_symlinkat, SYS_mknod, SYS_mknodat, SYS_truncate, SYS_chmod, SYS_fchmodat, SYS_chown,
-    SYS_lchown, SYS_fchownat, SYS_utime, SYS_utimes, SYS_utimensat, SYS_futimesat, SYS_setxattr, SYS_lsetxattr,
-    SYS_removexattr, SYS_lremovexattr, SYS_creat, SYS_socket, SYS_connect, SYS_bind, SYS_listen, SYS_sendto, SYS_sendmsg,
-    SYS_fork, SYS_vfork, SYS_execve, SYS_execveat, SYS_mount, SYS_umount2, SYS_ptrace, SYS_process_vm_writev,
-    SYS_shmget, SYS_msgget, SYS_mq_open, SYS_mq_unlink, SYS_io_uring_setup, SYS_reboot, SYS_sethostname, SYS_settimeofday,
-    SYS_clock_settime};
+    SYS_linkat, SYS_symlink, SYS_symlinkat, SYS_mknod, SYS_mknodat, SYS_truncate, SYS_chmod, SYS_fchmodat,
+    SYS_chown, SYS_lchown, SYS_fchownat, SYS_utime, SYS_utimes, SYS_utimensat, SYS_futimesat, SYS_setxattr,
+    SYS_lsetxattr, SYS_removexattr, SYS_lremovexattr, SYS_creat, SYS_socket, SYS_connect, SYS_bind, SYS_listen,
+    SYS_sendto, SYS_sendmsg, SYS_fork, SYS_vfork, SYS_execve, SYS_execveat, SYS_mount, SYS_umount2, SYS_ptrace,
+    SYS_process_vm_writev, SYS_shmget, SYS_msgget, SYS_mq_open, SYS_mq_unlink, SYS_io_uring_setup, SYS_reboot,
+    SYS_sethostname, SYS_settimeofday, SYS_clock_settime};
 enum { FORBIDDEN = sizeof forbidden / sizeof *forbidden };
 
 /* The call that was refused is said once, and fails. */

@@ -212,7 +212,7 @@ static void open_door(uint8_t *data, size_t length, detio_outcome *came) {
 
 /* Whether --fault has this outcome fail. */
 static bool is_faulty(const detio_outside *asked, bool oracle) {
-  if (!on || !run.fault || asked->kind == DETIO_ASKS_CLOSE) return false;
+  if (!begun || !run.fault || asked->kind == DETIO_ASKS_CLOSE) return false;
   if (oracle && (!slots[me].asked || slots[me].asked->what < LAST_SURE)) return false;
   return ++outsides == run.fault;
 }

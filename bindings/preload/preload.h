@@ -2,8 +2,9 @@
  *
  * The library stands below a program that is dynamically linked: its functions have the names of libc's and are found
  * first. Each thread of the program is a thread of one machine (detio.h). A call on a descriptor below NATIVE is a call
- * of the machine; all else that comes from outside is a read of one door, the oracle, whose bytes answer a question; and
- * what threads do to one another (locks, conditions, joins) is done to plain variables by the thread that has the turn.
+ * of the machine; all else that comes from outside is a read of one door, the oracle, whose bytes answer a question;
+ * and what threads do to one another (locks, conditions, joins) is done to plain variables by the thread that has the
+ * turn.
  *
  * Words: a thread is *inside* while the library's own code calls libc; *at the turn* while it has the turn and the
  * library's lock; *parked* while it waits for another thread or for the outside, and then it is pushed along after the
@@ -98,6 +99,7 @@ extern slot slots[SLOTS];
 extern __thread int me;      /* the slot of this thread, or -1 */
 extern __thread int inside;  /* above 0: the library's own calls go to libc */
 extern bool on;              /* the run has begun and is not over */
+extern bool begun;           /* .. and the program goes on by itself: what fails from here on is its own */
 
 /* The settings of the run. The log of a rerun has them. */
 typedef struct {
@@ -155,8 +157,8 @@ extern detio machine;
 uint32_t go_outside(void);
 int64_t ask(const question *, void *answer, size_t *length);
 int64_t asks(enum ask what, int at, const char *path, int64_t a, void *answer, size_t room);
-/* At the turn, which it gives up with the lock: waits for the outside, which has one record. `ready` says what is there,
- * in `count` bits of `bits`, and is called of a recording alone. */
+/* At the turn, which it gives up with the lock: waits for the outside, which has one record. `ready` says what is
+ * there, in `count` bits of `bits`, and is called of a recording alone. */
 void wait_outside(void (*ready)(void *), void *given, int16_t *bits, size_t count);
 /* .. until another thread unparks it from this, or until this time of this clock: whether it was unparked. */
 bool wait_until(const void *on, clockid_t clock, const struct timespec *until);
@@ -178,7 +180,6 @@ void once(const char *what, const char *format, ...) __attribute__((format(print
 enum kind { NONE, MEMORY, PIPE, HOST, STREAM, LISTENER, SOCKET, STANDARD };
 typedef struct {
   enum kind kind;
-  int uses;       /* how many numbers refer to it */
   int real;       /* the descriptor of the host; of STANDARD 1 or 2 */
   bool nonblock, directory, waits;
 } opened_file;
@@ -214,7 +215,7 @@ void *detio_heap_malloc(size_t);
 void *detio_heap_calloc(size_t, size_t);
 void *detio_heap_realloc(void *, size_t);
 void detio_heap_free(void *);
-extern size_t heap_used;
+extern size_t heap_used, heap_limit; /* bytes in use; and when a line says so */
 
 /* System calls that no library sees: the result, or an error's number below 0. */
 static inline long kernel(long n, long a, long b, long c, long d, long e, long f) {

@@ -1,4 +1,5 @@
-/* Processes and signals: what a thread waits for, what it sends, how the process ends, and what the run does not cover. */
+/* Processes and signals: what a thread waits for, what it sends, how the process ends, and what the run does not cover.
+ */
 #define _GNU_SOURCE
 #include "preload.h"
 
@@ -78,6 +79,19 @@ EXPORT int kill(pid_t to, int number) {
   long r = KERNEL(SYS_kill, KERNEL(SYS_getpid, 0), number);
   return r < 0 ? (errno = (int)-r, -1) : 0;
 }
+EXPORT int sigqueue(pid_t to, int number, const union sigval value) {
+  NEXT(sigqueue);
+  OFF(next(to, number, value));
+  if (to != getpid()) {
+    once("sigqueue", "sigqueue to another process is not covered: refused");
+    return errno = ENOSYS, -1;
+  }
+  siginfo_t about = {.si_signo = number, .si_code = SI_QUEUE};
+  about.si_pid = to;
+  about.si_value = value;
+  long r = KERNEL(SYS_rt_sigqueueinfo, KERNEL(SYS_getpid, 0), number, &about);
+  return r < 0 ? (errno = (int)-r, -1) : 0;
+}
 EXPORT int raise(int number) {
   long r = KERNEL(SYS_tgkill, KERNEL(SYS_getpid, 0), KERNEL(SYS_gettid, 0), number);
   return r < 0 ? (errno = (int)-r, -1) : 0;
@@ -131,8 +145,9 @@ EXPORT int system(const char *command) {
   OFF(next(command));
   if (!command) return 1;
   once("system", "system: what a command does is not recorded, but its status");
-  return (int)ask(&(question){.what = ASK_CHILD, .b = (intptr_t)run_command, .bytes = command, .length = strlen(command) + 1},
-                  NULL, NULL);
+  return (int)ask(
+      &(question){.what = ASK_CHILD, .b = (intptr_t)run_command, .bytes = command, .length = strlen(command) + 1}, NULL,
+      NULL);
 }
 
 enum { COMMANDS = 16 };
@@ -165,7 +180,8 @@ EXPORT int pclose(FILE *file) {
     if (!file || commands[i].ours != file) continue;
     (void)fclose(file);
     commands[i].ours = NULL;
-    return (int)ask(&(question){.what = ASK_CHILD, .a = 1, .b = (intptr_t)end_command, .bytes = &commands[i].real}, NULL, NULL);
+    return (int)ask(&(question){.what = ASK_CHILD, .a = 1, .b = (intptr_t)end_command, .bytes = &commands[i].real},
+                    NULL, NULL);
   }
   return next(file);
 }

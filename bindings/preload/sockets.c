@@ -43,6 +43,9 @@ static int becomes(int fd, const detio_call *call, enum kind kind) {
   return 0;
 }
 
+static bool is_socket(int fd);
+/* What fails on a descriptor that is none that waits for its address: with this error, where it is a socket. */
+static int not_new(int fd, int error) { return is_socket(fd) ? (errno = error, -1) : -1; }
 static bool is_loopback(const struct sockaddr_in *to) { return ntohl(to->sin_addr.s_addr) >> 24 == 127; }
 
 EXPORT int bind(int fd, const struct sockaddr *to, socklen_t length) {
@@ -51,7 +54,7 @@ EXPORT int bind(int fd, const struct sockaddr *to, socklen_t length) {
   if (!is_ours(fd)) return next(fd, to, length);
   const struct sockaddr_in *in = (const struct sockaddr_in *)to;
   opened_file *f = opened_at(fd);
-  if (f->kind != SOCKET) return errno = f->kind == NONE ? EBADF : EINVAL, -1;
+  if (f->kind != SOCKET) return not_new(fd, EINVAL);
   if (length < sizeof *in || in->sin_family != AF_INET) return errno = EAFNOSUPPORT, -1;
   if (in->sin_addr.s_addr == htonl(INADDR_ANY))
     once("any", "a server of all addresses listens at 127.0.0.1 alone");
@@ -65,7 +68,7 @@ EXPORT int listen(int fd, int count) {
   if (!is_ours(fd)) return next(fd, count);
   opened_file *f = opened_at(fd);
   if (f->kind == LISTENER) return 0;
-  if (f->kind != SOCKET) return errno = f->kind == NONE ? EBADF : EOPNOTSUPP, -1;
+  if (f->kind != SOCKET) return not_new(fd, EINVAL);
   return becomes(fd, &(detio_call){.kind = DETIO_TCP_LISTEN}, LISTENER);
 }
 EXPORT int connect(int fd, const struct sockaddr *to, socklen_t length) {
@@ -74,7 +77,7 @@ EXPORT int connect(int fd, const struct sockaddr *to, socklen_t length) {
   if (!is_ours(fd)) return next(fd, to, length);
   const struct sockaddr_in *in = (const struct sockaddr_in *)to;
   enum kind kind = opened_at(fd)->kind;
-  if (kind != SOCKET) return errno = kind == NONE ? EBADF : EISCONN, -1;
+  if (kind != SOCKET) return not_new(fd, EISCONN);
   if (length < sizeof *in || in->sin_family != AF_INET) return errno = EAFNOSUPPORT, -1;
   if (!is_loopback(in)) {
     once("connect", "a connection to another host than this one is not covered: refused");
@@ -140,7 +143,8 @@ EXPORT int shutdown(int fd, int how) {
   NEXT(shutdown);
   OFF(next(fd, how));
   if (!is_ours(fd)) return next(fd, how);
-  return (int)plain_call(&(detio_call){.kind = DETIO_SHUTDOWN, .descriptor = fd, .choice = (uint32_t)how}, NULL, 0, NULL, 0);
+  return (int)plain_call(&(detio_call){.kind = DETIO_SHUTDOWN, .descriptor = fd, .choice = (uint32_t)how}, NULL, 0,
+                         NULL, 0);
 }
 
 static bool is_socket(int fd) {

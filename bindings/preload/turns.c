@@ -60,27 +60,30 @@ static void end_with_log(int h, int also) {
     ends(LOG_ENDS, "the log ends here: thread %d, at its call %lu, has no outcome %lu", h, s->calls, s->outcomes + 1);
 }
 
-/* The slot's word is 0, and the lock is free: sleeps until another thread rouses it, or until this time of CLOCK_MONOTONIC,
- * if there is one: whether it was roused. */
+/* The slot's word is 0, and the lock is free: sleeps until another thread rouses it, or until this time of
+ * CLOCK_MONOTONIC, if there is one: whether it was roused. */
 static bool sleep_at(slot *s, const struct timespec *until) {
   for (int spun = 0; spun < 64 && !__atomic_load_n(&s->word, __ATOMIC_ACQUIRE); spun++) __builtin_ia32_pause();
   while (!__atomic_load_n(&s->word, __ATOMIC_ACQUIRE)) {
-    long r = KERNEL(SYS_futex, &s->word, FUTEX_WAIT_BITSET | FUTEX_PRIVATE_FLAG, 0, until, NULL, FUTEX_BITSET_MATCH_ANY);
+    long r =
+        KERNEL(SYS_futex, &s->word, FUTEX_WAIT_BITSET | FUTEX_PRIVATE_FLAG, 0, until, NULL, FUTEX_BITSET_MATCH_ANY);
     if (r == -ETIMEDOUT) return false;
   }
   return true;
 }
 
 /* Sleeps until another thread rouses this one, or until then: whether it was roused. The lock is held before and after,
- * and free meanwhile. */
+ * and free meanwhile; a handler of a signal that comes meanwhile is no part of the run. */
 static bool nap_until(int i, const struct timespec *until) {
   slot *s = &slots[i];
   __atomic_store_n(&s->word, 0, __ATOMIC_RELAXED);
   s->sleeps = true;
   if (run.replays) end_with_log(holder(), i);
+  inside++;
   unlock_run();
   bool roused = sleep_at(s, until);
   lock_run();
+  inside--;
   s->sleeps = false;
   return roused;
 }
@@ -98,8 +101,8 @@ _Noreturn static void end_deadlocked(void) {
   int length = 0;
   for (size_t i = 0; i < run.threads; i++)
     if (slots[i].state == LIVE)
-      length += snprintf(line + length, sizeof line - (size_t)length, "%s thread %zu at its call %lu", length ? "," : "", i,
-                         slots[i].calls);
+      length += snprintf(line + length, sizeof line - (size_t)length, "%s thread %zu at its call %lu",
+                         length ? "," : "", i, slots[i].calls);
   ends(DEADLOCK, "deadlock: every thread waits for another:%s", line);
 }
 
@@ -197,9 +200,8 @@ static bool delay(void) {
 /* The lock is held: waits until this thread has the turn, and is not parked. */
 static void await_turn(void) {
   slot *s = &slots[me];
-  if (settle() == me && !s->parked) return;
   s->wants_turn = true;
-  do nap(me); while (settle() != me || s->parked);
+  while (settle() != me || s->parked) nap(me);
   s->wants_turn = false;
 }
 
@@ -213,6 +215,10 @@ void turn(void) {
 static void return_to_program(void) {
   if (run.serial && !inside) await_turn();
   else (void)settle();
+  if (heap_used > heap_limit) {
+    heap_limit = SIZE_MAX;
+    say("the run keeps 1 GB of history in memory, and grows");
+  }
   unlock_run();
 }
 
@@ -395,8 +401,10 @@ void finish_run(void) {
     for (size_t i = run.threads; i-- > 0;)
       if (!detio_unused(&machine, i, &left) && left) unused += left, first = i;
     if (unused)
-      ends(DIVERGED, "the rerun diverges: it ended with %lu outcomes of its log unused, the first of thread %zu after its"
-           " call %lu", unused, first, slots[first].calls);
+      ends(DIVERGED,
+           "the rerun diverges: it ended with %lu outcomes of its log unused, the first of thread %zu after its"
+           " call %lu",
+           unused, first, slots[first].calls);
   }
   if (all) (void)detio_finish(&machine, &ended);
   if (!run.replays) write_log();
