@@ -1,0 +1,56 @@
+/* Signals that the process sends itself, commands, and how it ends. */
+#define _GNU_SOURCE
+#include "said.h"
+
+#include <pthread.h>
+#include <signal.h>
+#include <stdlib.h>
+#include <unistd.h>
+
+static volatile sig_atomic_t handled;
+static void handles(int number) { handled += number; }
+static pthread_t waiter;
+static int first, second;
+static void *waits(void *given) {
+  sigset_t *set = given;
+  if (sigwait(set, &first)) first = -1;
+  second = sigwaitinfo(set, NULL);
+  return NULL;
+}
+
+int main(void) {
+  sigset_t set, none, there;
+  sigemptyset(&none);
+  sigemptyset(&set);
+  sigaddset(&set, SIGUSR1);
+  sigaddset(&set, SIGUSR2);
+  pthread_sigmask(SIG_BLOCK, &set, NULL);
+  pthread_create(&waiter, NULL, waits, &set);
+  SAY(kill(getpid(), SIGUSR1));
+  usleep(20000);
+  SAY(kill(getpid(), SIGUSR2));
+  pthread_join(waiter, NULL);
+  SAY(first == SIGUSR1);
+  SAY(second == SIGUSR2);
+  SAY(sigtimedwait(&set, NULL, &(struct timespec){0, 1000000}));
+  signal(SIGUSR1, handles);
+  SAY(kill(getpid(), SIGUSR1));
+  SAY(sigpending(&there));
+  SAY(sigismember(&there, SIGUSR1));
+  SAY(sigsuspend(&none));
+  SAY(handled == SIGUSR1);
+  signal(SIGUSR2, handles);
+  SAY(kill(getpid(), SIGUSR2));
+  pthread_sigmask(SIG_UNBLOCK, &set, NULL);
+  SAY(handled == SIGUSR1 + SIGUSR2);
+  SAY(sigqueue(getpid(), SIGUSR1, (union sigval){.sival_int = 5}));
+  SAY(handled == 2 * SIGUSR1 + SIGUSR2);
+  SAY(sigqueue(getpid(), 999, (union sigval){.sival_int = 5}));
+  handled -= SIGUSR1;
+  SAY(raise(SIGUSR1));
+  SAY(handled == 2 * SIGUSR1 + SIGUSR2);
+  SAY(kill(1 << 22, 0));
+  SAY(system("exit 3") >> 8);
+  fflush(stdout);
+  _exit(7);
+}

@@ -1,0 +1,91 @@
+/* A server and two clients at 127.0.0.1, all of one process. */
+#define _GNU_SOURCE
+#include "said.h"
+
+#include <arpa/inet.h>
+#include <fcntl.h>
+#include <netinet/in.h>
+#include <netinet/tcp.h>
+#include <poll.h>
+#include <pthread.h>
+#include <sys/socket.h>
+#include <sys/uio.h>
+#include <unistd.h>
+
+static struct sockaddr_in address;
+static pthread_mutex_t m = PTHREAD_MUTEX_INITIALIZER;
+static long answered;
+
+static void *client(void *given) {
+  char text[32], back[32];
+  int s = socket(AF_INET, SOCK_STREAM, 0);
+  if (connect(s, (struct sockaddr *)&address, sizeof address)) return (void *)-1;
+  for (int i = 0; i < 5; i++) {
+    int n = snprintf(text, sizeof text, "client %ld %d", (long)given, i);
+    if (send(s, text, (size_t)n, MSG_NOSIGNAL) != n || recv(s, back, (size_t)n, MSG_WAITALL) != n ||
+        memcmp(text, back, (size_t)n))
+      return (void *)-2;
+    pthread_mutex_lock(&m);
+    answered++;
+    pthread_mutex_unlock(&m);
+  }
+  shutdown(s, SHUT_WR);
+  long last = recv(s, back, sizeof back, 0);
+  close(s);
+  return (void *)last;
+}
+
+static void *serve(void *given) {
+  int s = (int)(long)given;
+  char text[32];
+  for (ssize_t n; (n = read(s, text, sizeof text)) > 0;) {
+    struct iovec part = {text, (size_t)n};
+    struct msghdr message = {.msg_iov = &part, .msg_iovlen = 1};
+    if (sendmsg(s, &message, 0) != n) break;
+  }
+  close(s);
+  return NULL;
+}
+
+int main(void) {
+  pthread_t clients[2], servers[2];
+  struct sockaddr_in peer;
+  socklen_t length = sizeof address;
+  void *result;
+  int value = 1;
+  int s = socket(AF_INET, SOCK_STREAM | SOCK_CLOEXEC, 0);
+  SAY(s);
+  SAY(setsockopt(s, SOL_SOCKET, SO_REUSEADDR, &value, sizeof value));
+  address = (struct sockaddr_in){.sin_family = AF_INET, .sin_addr.s_addr = htonl(INADDR_LOOPBACK)};
+  SAY(bind(s, (struct sockaddr *)&address, sizeof address));
+  SAY(listen(s, 5));
+  SAY(getsockname(s, (struct sockaddr *)&address, &length));
+  SAY(ntohs(address.sin_port) != 0);
+  SAY(getpeername(s, (struct sockaddr *)&peer, &(socklen_t){sizeof peer}));
+  length = sizeof value;
+  SAY(getsockopt(s, SOL_SOCKET, SO_TYPE, &value, &length));
+  SAY(value);
+  struct pollfd ready = {.fd = s, .events = POLLIN};
+  SAY(poll(&ready, 1, 1));
+  for (long i = 0; i < 2; i++) pthread_create(&clients[i], NULL, client, (void *)i);
+  for (int i = 0; i < 2; i++) {
+    length = sizeof peer;
+    int c = accept(s, (struct sockaddr *)&peer, &length);
+    if (ntohl(peer.sin_addr.s_addr) != INADDR_LOOPBACK || !peer.sin_port) c = -1;
+    pthread_create(&servers[i], NULL, serve, (void *)(long)c);
+  }
+  for (int i = 0; i < 2; i++) pthread_join(servers[i], NULL);
+  for (int i = 0; i < 2; i++) {
+    pthread_join(clients[i], &result);
+    SAY((long)result);
+  }
+  SAY(answered);
+  SAY(fcntl(s, F_SETFL, O_NONBLOCK));
+  SAY(accept4(s, NULL, NULL, 0));
+  SAY(close(s));
+  SAY(connect(s, (struct sockaddr *)&address, sizeof address));
+  s = socket(AF_INET, SOCK_STREAM, 0);
+  SAY(connect(s, (struct sockaddr *)&address, sizeof address));
+  SAY(recv(1000, &value, 1, 0));
+  return 0;
+}
