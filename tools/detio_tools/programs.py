@@ -1,0 +1,655 @@
+"""Programs as they are, recorded and rerun: what tools/try-programs does with each."""
+import os
+import pathlib
+import re
+import shutil
+import signal
+import subprocess
+import threading
+import time
+import urllib.request
+from collections.abc import Callable, Iterator
+from dataclasses import dataclass, field, replace
+
+from detio_tools import repository
+
+TESTS = pathlib.Path(repository.TOP) / "bindings/preload/tests"
+PRELOAD = pathlib.Path(repository.TOP) / "bindings/preload"
+SECONDS = 120
+DIVERGED, DEADLOCK, LOG_ENDS, DIFFERS, OURS = 120, 121, 123, 124, 125
+
+
+@dataclass(frozen=True)
+class Case:
+    """A program with its words. A word that begins with `@` is one of our own tests, compiled."""
+
+    name: str
+    words: tuple[str, ...]
+    options: tuple[str, ...] = ()
+    needs: tuple[str, ...] = ()  # commands and files
+    input: str = "data.txt"  # is taken away before reruns, and in others changed in its place
+    stdin: bool = False  # the input is standard input too
+    native: bool = True  # it prints the same as without us
+    reruns: int = 5
+    status: int = 0
+
+
+@dataclass(frozen=True)
+class Ran:
+    """What a program printed, and its status."""
+
+    status: int
+    out: bytes
+    err: bytes
+
+    def alone(self) -> tuple[int, bytes, bytes]:
+        """Without our own lines."""
+        lines = [it for it in self.err.splitlines(keepends=True) if not it.startswith(b"detio: ")]
+        return self.status, self.out, b"".join(lines)
+
+    def ours(self) -> str:
+        """Our own lines."""
+        lines = [it for it in self.err.splitlines() if it.startswith(b"detio: ")]
+        return b"; ".join(lines).decode(errors="replace")
+
+
+DATA = "data.txt"
+CASES = (
+    Case("descriptors", ("@descriptors",), input="input.txt"),
+    Case("names", ("@names",), input="input.txt"),
+    Case("files", ("@files",), input="input.txt"),
+    Case("locks", ("@locks",)),
+    Case("threads", ("@threads",)),
+    Case("sockets", ("@sockets",)),
+    Case("process", ("@process",), status=7),
+    Case("clocks", ("@clocks",), native=False),
+    Case("checked", ("@checked",), input="input.txt"),
+    Case("lines", ("@lines",), input="input.txt", stdin=True),
+    Case("effects", ("@effects",), input="input.txt"),
+    Case("order", ("@order",), native=False),
+    Case("edges", ("@edges",), input="input.txt"),
+    Case("inside", ("@inside",), ("--mem", "/run"), native=False),
+    Case("inside half a name", ("@inside", "half"), ("--mem", "/dev/nul"), native=False),
+    Case("refused", ("@refused",), native=False),
+    Case("prints", ("@prints",), native=False, reruns=10),
+    Case("prints in parallel", ("@prints",), ("--parallel",), native=False, reruns=10),
+    Case("bank", ("@bank",), native=False, input="account.txt"),
+    Case("bank in the run", ("@bank", "/run/account"), ("--mem", "/run"), native=False),
+    Case("race", ("@race",), native=False, reruns=20),
+    Case("race with a seed", ("@race",), ("--seed", "5"), native=False),
+    Case("streams in parallel", ("@streams",), ("--parallel", "--overlap"), ("c++",), "input.txt", native=False),
+    Case("streams", ("@streams",), (), ("c++",), "input.txt", native=False),
+    Case("Rust", ("@threads.rs",), (), ("rustc",), native=False, reruns=20),
+    Case("TBB", ("@blocks",), (), ("c++", "/usr/include/tbb/parallel_for.h"), native=False, reruns=20),
+    Case("pigz", ("pigz", "-p", "4", "-c", DATA), (), ("pigz",)),
+    Case("pigz of standard input", ("pigz", "-m", "-p", "3"), (), ("pigz",), stdin=True),
+    Case("pbzip2", ("pbzip2", "-p4", "-c", DATA), (), ("pbzip2",)),
+    Case("xz", ("xz", "-T", "4", "-0", "-c", DATA), (), ("xz",)),
+    Case("sort", ("sort", "--parallel=4", "-S", "20M", DATA), (), ("sort",)),
+    Case("sort of small memory", ("sort", "-S", "200K", "--parallel=3", DATA), (), ("sort",)),
+    Case("plzip", ("plzip", "-n3", "-c", DATA), (), ("plzip",)),
+    Case("pixz", ("pixz", "-t"), (), ("pixz",), "data.tpxz", stdin=True),
+    Case("ag", ("ag", "--workers", "3", "9999", DATA), (), ("ag",)),
+    Case("zstd", ("zstd", "-q", "-T3", "-c", DATA), (), ("zstd",)),
+    Case("lbzip2", ("lbzip2", "-c", DATA), (), ("lbzip2",)),
+    Case("ffmpeg", ("ffmpeg", "-v", "error", "-threads", "3", "-f", "rawvideo", "-s", "64x64", "-pix_fmt", "gray", "-i",
+                    DATA, "-frames:v", "20", "-c:v", "mpeg4", "-f", "framemd5", "-"), (), ("ffmpeg",), native=False),
+    Case("Perl", ("/usr/bin/perl", "{tests}/threads.pl"), (), ("/usr/bin/perl",), native=False),
+    Case("Python", ("/usr/bin/python3", "-S", "{tests}/threads.py"), (), ("/usr/bin/python3",), native=False),
+)
+
+
+@dataclass
+class Trial:
+    """Folders for what is tried, and what came of it."""
+
+    library: pathlib.Path
+    room: pathlib.Path
+    sources: pathlib.Path = PRELOAD  # of the library
+    seconds: int = SECONDS  # for one run of a program
+    more: dict[str, str] = field(default_factory=dict)  # variables of the environment
+    checks: int = 0
+    faults: list[str] = field(default_factory=list)
+    left_out: dict[str, int] = field(default_factory=dict)
+
+    def check(self, holds: bool, fault: str) -> bool:
+        """Counts a check, and keeps the fault where it does not hold."""
+        self.checks += 1
+        if not holds:
+            self.faults.append(fault)
+            print(f"try-programs: {fault}", flush=True)
+        return holds
+
+    def leaves_out(self, what: str, checks: int) -> None:
+        """These checks were not made, for want of something."""
+        self.left_out[what] = self.left_out.get(what, 0) + checks
+
+    def launch(self, *words: str, folder: pathlib.Path, given: bytes | None = None,
+               variables: dict[str, str] | None = None) -> Ran:
+        """Runs the launcher, or with a path as first word that program."""
+        try:
+            done = subprocess.run(words, cwd=folder, capture_output=True, timeout=self.seconds, input=given,
+                                  stdin=subprocess.DEVNULL if given is None else None,
+                                  env=variables or self.environment())
+        except subprocess.TimeoutExpired:
+            return Ran(-9, b"", b"no end")
+        status = done.returncode if done.returncode >= 0 else 128 - done.returncode
+        return Ran(status, done.stdout, done.stderr)
+
+    def environment(self) -> dict[str, str]:
+        """The same for each program."""
+        return {"PATH": os.environ["PATH"], "HOME": str(self.room), "LC_ALL": "C", "PYTHONHASHSEED": "0", **self.more}
+
+    def run(self, log: str, *words: str, folder: pathlib.Path, options: tuple[str, ...] = (),
+            given: bytes | None = None) -> Ran:
+        """Records a program."""
+        launcher = str(self.library / "detio-launch")
+        return self.launch(launcher, "run", "--log", log, "--force", *options, "--", *words, folder=folder, given=given)
+
+    def rerun(self, log: str, *words: str, folder: pathlib.Path) -> Ran:
+        """Reruns a log."""
+        return self.launch(str(self.library / "detio-launch"), "rerun", "--log", log, *words, folder=folder)
+
+
+def make_inputs(folder: pathlib.Path) -> None:
+    """The files that programs read."""
+    folder.mkdir(parents=True, exist_ok=True)
+    numbers = (f"{number * 7919 % 100003}\n" for number in range(60000))
+    (folder / "data.txt").write_text("".join(numbers), encoding="ascii")
+    (folder / "input.txt").write_text("".join(f"{number}\n" for number in range(1, 41)), encoding="ascii")
+    (folder / "account.txt").write_text("5\n", encoding="ascii")
+    if shutil.which("pixz"):
+        subprocess.run(["pixz", "data.txt", "data.tpxz"], cwd=folder, check=True)
+    for path in folder.iterdir():
+        os.utime(path, (1_700_000_000, 1_700_000_000))
+
+
+def compile_tests(to: pathlib.Path) -> None:
+    """Our own programs."""
+    to.mkdir(parents=True, exist_ok=True)
+    for source in sorted(TESTS.glob("*.c")):
+        subprocess.run([os.environ.get("CC", "cc"), "-std=gnu11", "-O1", "-Wall", "-Wextra", "-Werror", "-o",
+                        str(to / source.stem), str(source), "-lpthread"], check=True)
+    for name, more in ("streams", "-lpthread"), ("blocks", "-ltbb"):
+        if shutil.which("c++"):
+            subprocess.run(["c++", "-O1", "-o", str(to / name), str(TESTS / f"{name}.cc"), "-lpthread", more],
+                           stderr=subprocess.DEVNULL, check=False)
+    if shutil.which("rustc"):
+        subprocess.run(["rustc", "-O", "-o", str(to / "threads.rs"), str(TESTS / "threads.rs")], stderr=subprocess.DEVNULL,
+                       check=False)
+
+
+def seen(folder: pathlib.Path) -> list[tuple[str, int, int, bytes]]:
+    """The files of a folder, with their times and bytes."""
+    found = []
+    for path in sorted(folder.rglob("*")):
+        status = path.lstat()
+        found.append((str(path), status.st_mtime_ns, status.st_ctime_ns, path.read_bytes() if path.is_file() else b""))
+    return [(str(folder), folder.stat().st_mtime_ns, 0, b""), *found]
+
+
+def processes_in(folder: pathlib.Path) -> list[str]:
+    """The processes whose directory is this one."""
+    found = []
+    for process in pathlib.Path("/proc").glob("[0-9]*"):
+        try:
+            if os.readlink(process / "cwd") == str(folder):
+                found.append(process.name)
+        except OSError:
+            continue
+    return found
+
+
+def words_of(case: Case, trial: Trial) -> list[str]:
+    """The words of a case, with paths."""
+    words = [str(trial.room / "programs" / it[1:]) if it.startswith("@") else it for it in case.words]
+    return [it.replace("{tests}", str(TESTS)) for it in words]
+
+
+def missing(case: Case, trial: Trial) -> str | None:
+    """What the machine lacks for a case."""
+    for need in case.needs:
+        if not (os.path.exists(need) if need.startswith("/") else shutil.which(need)):
+            return need
+    return None if os.path.exists(words_of(case, trial)[0]) or shutil.which(case.words[0]) else case.name
+
+
+def changed(path: pathlib.Path) -> None:
+    """Other bytes in place of those of a file, as many, with the same times."""
+    status = path.stat()
+    path.write_bytes(bytes(it ^ 1 for it in path.read_bytes()))
+    os.utime(path, ns=(status.st_atime_ns, status.st_mtime_ns))
+
+
+def try_case(case: Case, trial: Trial) -> None:
+    """Records a program, and reruns it with its input gone, and with other input."""
+    lacks = missing(case, trial)
+    if lacks:
+        trial.leaves_out(lacks, case.reruns + 4)
+        return
+    folder = trial.room / "here" / case.name.replace(" ", "-")
+    make_inputs(folder)
+    given = (folder / case.input).read_bytes() if case.stdin else None
+    words = words_of(case, trial)
+    alone = trial.launch(*words, folder=folder, given=given) if case.native else None
+    shutil.rmtree(folder)
+    make_inputs(folder)
+    log = str(trial.room / f"{case.name.replace(' ', '-')}.log")
+    run = trial.run(log, *words, folder=folder, options=case.options, given=given)
+    trial.check(run.status == case.status, f"{case.name}: status {run.status}: {run.ours()}")
+    if alone:
+        trial.check(run.alone() == alone.alone(), f"{case.name}: the recording differs from the program alone")
+    kept = (folder / case.input).read_bytes() if (folder / case.input).exists() else b"kept\n"
+    (folder / case.input).unlink(missing_ok=True)
+    for number in range(case.reruns + 2):
+        if number == case.reruns:
+            (folder / case.input).write_bytes(kept)
+            changed(folder / case.input)
+        before = seen(folder)
+        again = trial.rerun(log, folder=folder)
+        same = again.alone() == run.alone()
+        if not trial.check(same, f"{case.name}: rerun {number} differs, status {again.status}: {again.ours()}"):
+            break
+        trial.check(seen(folder) == before, f"{case.name}: rerun {number} changed the folder")
+        trial.check(not processes_in(folder), f"{case.name}: rerun {number} left a process")
+
+
+def closed_program(trial: Trial) -> None:
+    """A program that nothing comes to has one log."""
+    folder = trial.room / "closed"
+    make_inputs(folder)
+    logs = set()
+    for _ in range(30):
+        run = trial.run("closed.log", str(trial.room / "programs/closed"), folder=folder, options=("--mem", "/run"))
+        if not trial.check(run.status == 0, f"closed: status {run.status}: {run.ours()}"):
+            return
+        logs.add((folder / "closed.log").read_bytes())
+    trial.check(len(logs) == 1, f"closed: 30 recordings have {len(logs)} logs")
+
+
+def killed(trial: Trial) -> None:
+    """A recording that is killed reruns to the tear, and prints there what it had printed at least."""
+    folder = trial.room / "killed"
+    make_inputs(folder)
+    words = [str(trial.library / "detio-launch"), "run", "--log", "killed.log", "--force", "--",
+             str(trial.room / "programs/ticks")]
+    for number in range(10):
+        (folder / "input.txt").write_text("x" * 20000, encoding="ascii")
+        with open(folder / "printed", "wb") as out:
+            process = subprocess.Popen(words, cwd=folder, stdout=out, stderr=subprocess.DEVNULL, stdin=subprocess.DEVNULL,
+                                       env=trial.environment())
+            time.sleep(0.03 + 0.02 * number)
+            process.send_signal(signal.SIGKILL)
+            process.wait()
+        (folder / "input.txt").unlink()
+        again = trial.rerun("killed.log", folder=folder)
+        printed = (folder / "printed").read_bytes()
+        whole = process.returncode == 0 and again.status == 0
+        trial.check(whole or again.status == LOG_ENDS or not printed and again.status == DIFFERS,
+                    f"killed {number}: status {again.status}: {again.ours()}")
+        trial.check(again.out.startswith(printed), f"killed {number}: the rerun lacks what was printed")
+
+
+def differing(trial: Trial) -> None:
+    """Another environment, directory, argument or binary is told; and a log is not written over."""
+    folder = trial.room / "differing"
+    make_inputs(folder)
+    (folder / "below").mkdir()
+    program = folder / "program"
+    shutil.copy(trial.room / "programs/race", program)
+    launcher = str(trial.library / "detio-launch")
+    trial.run(str(folder / "log"), str(program), folder=folder)
+    trial.check(oct((folder / "log").stat().st_mode & 0o777) == "0o600", "differing: others may read the log")
+    rerun = (launcher, "rerun", "--log", str(folder / "log"), "--")
+    changes: dict[str, Callable[[], Ran]] = {
+        "FOO=1": lambda: trial.launch(*rerun, str(program), folder=folder, variables={**trial.environment(), "FOO": "1"}),
+        "directory=": lambda: trial.launch(*rerun, str(program), folder=folder / "below"),
+        "argument=more": lambda: trial.launch(*rerun, str(program), "more", folder=folder)}
+    for said, act in changes.items():
+        ran = act()
+        trial.check(ran.status == DIFFERS and said in ran.ours(), f"differing: {said} is not told: {ran.status} {ran.ours()}")
+    same = trial.launch(*rerun, str(program), folder=folder)
+    trial.check(same.status == 0, f"differing: the same program differs: {same.ours()}")
+    over = trial.launch(launcher, "run", "--log", str(folder / "log"), "--", str(program), folder=folder)
+    trial.check(over.status == OURS and "--force" in over.ours(), f"differing: a log is written over: {over.status}")
+    shutil.copy(trial.room / "programs/closed", program)
+    other = trial.launch(launcher, "rerun", "--log", str(folder / "log"), folder=folder)
+    trial.check(other.status == DIFFERS and "file=" in other.ours(), f"differing: another binary: {other.status} {other.ours()}")
+    trial.run(str(folder / "log"), "/bin/sh", "-c", "echo one", folder=folder)
+    forced = trial.launch(launcher, "rerun", "--log", str(folder / "log"), "--force", "--", "/bin/sh", "-c", "echo two",
+                          folder=folder)
+    trial.check(forced.status == DIVERGED, f"differing: other words are printed: {forced.status} {forced.ours()}")
+    own_environment(trial, folder)
+
+
+def own_environment(trial: Trial, folder: pathlib.Path) -> None:
+    """A program has its own environment, and nothing of ours in it; and in a rerun that of its recording."""
+    launcher, script = str(trial.library / "detio-launch"), 'echo "$FOO[$LD_PRELOAD$DETIO_RUN$DETIO_PAD]"'
+    for number, words in enumerate((("run", "--force", "--log", "own.log", "--", "/bin/sh", "-c", script),
+                                    ("rerun", "--log", "own.log"))):
+        ran = trial.launch(launcher, *words, folder=folder, variables={**trial.environment(), "FOO": str(number)})
+        trial.check((ran.status, ran.out) == (0, b"0[]\n"), f"differing: environment: {ran.status} {ran.out!r} {ran.ours()}")
+
+
+def statuses(trial: Trial) -> None:
+    """What is wrong has its status, and one line."""
+    folder = trial.room / "statuses"
+    make_inputs(folder)
+    launcher = str(trial.library / "detio-launch")
+    (folder / "static.c").write_text("int main(void) { return 0; }\n", encoding="ascii")
+    (folder / "no-program").write_text("no program\n", encoding="ascii")
+    (folder / "no-program").chmod(0o755)
+    (folder / "torn").write_bytes(b"DIOL\0\2\0")
+    static = subprocess.run([os.environ.get("CC", "cc"), "-static", "-o", "static", "static.c"], cwd=folder,
+                            stderr=subprocess.DEVNULL).returncode == 0
+    wanted: list[tuple[int, tuple[str, ...]]] = [
+        (127, ("run", "--", "no-such-program")), (126, ("run", "--", "./no-program")), (OURS, ("run",)),
+        (OURS, ("run", "--threads", "17", "--", "true")), (OURS, ("run", "--log", "none/log", "--", "true")),
+        (OURS, ("rerun", "--", "true")), (OURS, ("rerun", "--log", "none")), (DIFFERS, ("rerun", "--log", "torn")),
+        (OURS, ("run", "--mem", "relative", "--", "true")), (OURS, ("run", "--unknown", "--", "true"))]
+    wanted += [(126, ("run", "--", "./static"))] if static else []
+    for status, words in wanted:
+        ran = trial.launch(launcher, *words, folder=folder)
+        trial.check(ran.status == status and ran.err.startswith(b"detio: "), f"{' '.join(words)}: {ran.status} {ran.ours()}")
+
+
+def addresses(trial: Trial) -> None:
+    """Where the kernel does not fix addresses, the run says so and goes on, and its log says it."""
+    folder = trial.room / "addresses"
+    make_inputs(folder)
+    program, launcher = str(trial.room / "programs/race"), str(trial.library / "detio-launch")
+    trial.run("fixed.log", program, folder=folder)
+    trial.check(b"fixed=yes" in (folder / "fixed.log").read_bytes(), "addresses: they are not fixed")
+    ran = trial.launch(str(trial.room / "programs/blocked"), launcher, "run", "--log", "other.log", "--", program, folder=folder)
+    trial.check(ran.status == 0 and "addresses" in ran.ours(), f"addresses: status {ran.status}: {ran.ours()}")
+    trial.check(b"fixed=yes" not in (folder / "other.log").read_bytes(), "addresses: the log says that they are fixed")
+
+
+def hang_of_pigz(trial: Trial) -> None:
+    """One failing read has pigz 2.6 wait for ever, which its log repeats."""
+    version = subprocess.run(["pigz", "--version"], capture_output=True, text=True).stdout if shutil.which("pigz") else ""
+    if version.strip() != "pigz 2.6":
+        trial.leaves_out("pigz 2.6", 21)
+        return
+    folder = trial.room / "hang"
+    make_inputs(folder)
+    for fault in range(4, 40):
+        run = trial.run("hang.log", "pigz", "-p", "4", "-c", "data.txt", folder=folder, options=("--fault", str(fault)))
+        if run.status == DEADLOCK:
+            break
+    trial.check(run.status == DEADLOCK and "deadlock" in run.ours(), f"pigz: no fault hangs it: {run.status}")
+    (folder / "data.txt").unlink()
+    for number in range(20):
+        again = trial.rerun("hang.log", folder=folder)
+        trial.check((again.status, again.out) == (run.status, run.out), f"pigz: rerun {number} of the hang: {again.status}")
+
+
+def stuck(trial: Trial) -> None:
+    """Threads that wait for one another end with a status of their own, and so do reruns."""
+    folder = trial.room / "stuck"
+    make_inputs(folder)
+    for number in range(6):
+        ran = (trial.rerun("stuck.log", folder=folder) if number else
+               trial.run("stuck.log", str(trial.room / "programs/stuck"), folder=folder))
+        trial.check((ran.status, ran.out) == (DEADLOCK, b"two threads\n") and "deadlock" in ran.ours(),
+                    f"stuck: status {ran.status}: {ran.ours()}")
+
+
+def net(trial: Trial) -> None:
+    """What goes past the library to the kernel does nothing in a rerun, and is told."""
+    folder = trial.room / "net"
+    make_inputs(folder)
+    run = trial.run("../net.log", str(trial.room / "programs/past"), folder=folder)
+    trial.check(run.status == 0 and (folder / "made-past").exists(), f"net: status {run.status}: {run.ours()}")
+    shutil.rmtree(folder)
+    make_inputs(folder)
+    before = seen(folder)
+    again = trial.rerun("../net.log", folder=folder)
+    trial.check(seen(folder) == before, "net: a rerun changed the folder")
+    trial.check(again.status == 0 and again.ours().count("reaches outside") == 5, f"net: {again.status} {again.ours()}")
+
+
+def passed(trial: Trial) -> None:
+    """Below --pass a rerun reaches the host as its recording did, and elsewhere not."""
+    folder = trial.room / "passed"
+    for name, wanted in (".", True), ("other", False):
+        make_inputs(folder / "other")
+        made = folder / "made.txt"
+        options = ("--pass", str((folder / name).resolve()))
+        run = trial.run("passed.log", "touch", str(made), folder=folder, options=options)
+        trial.check(run.status == 0 and made.exists(), f"passed: status {run.status}: {run.ours()}")
+        made.unlink(missing_ok=True)
+        again = trial.rerun("passed.log", folder=folder)
+        trial.check((again.status, made.exists()) == (0, wanted), f"passed: {name}: {again.status} {again.ours()}")
+        shutil.rmtree(folder)
+
+
+def faults(trial: Trial) -> None:
+    """The call that is to fail does, and no other."""
+    folder = trial.room / "faults"
+    make_inputs(folder)
+    program = str(trial.room / "programs/faulty")
+    for number in range(1, 11):
+        run = trial.run("faults.log", program, folder=folder, options=("--fault", str(number)))
+        shutil.rmtree(folder / "made", ignore_errors=True)
+        again = trial.rerun("faults.log", folder=folder)
+        trial.check((run.status, run.out) == (0, b"%d 1\n" % number), f"faults: {number}: {run.out!r} {run.ours()}")
+        trial.check((again.status, again.out) == (0, run.out), f"faults: rerun {number}: {again.status} {again.ours()}")
+
+
+def seeds(trial: Trial) -> None:
+    """Seeds have other schedules, and each has one."""
+    folder = trial.room / "seeds"
+    make_inputs(folder)
+    printed = set()
+    for seed in range(1, 7):
+        pair = [trial.run("seeds.log", str(trial.room / "programs/race"), folder=folder, options=("--seed", str(seed)))
+                for _ in range(2)]
+        trial.check(pair[0].alone() == pair[1].alone(), f"seeds: {seed} has two schedules")
+        printed.add(pair[0].out)
+    trial.check(len(printed) > 1, "seeds: six seeds have one schedule")
+
+
+def children(trial: Trial) -> None:
+    """A recording starts other processes, and a rerun none."""
+    folder = trial.room / "children"
+    make_inputs(folder)
+    for way in range(11):
+        run = trial.run("../children.log", str(trial.room / "programs/children"), str(way), folder=folder)
+        there = (folder / "made.txt").exists()
+        wanted = (4, False) if way == 10 else (0, True)
+        trial.check((run.status, there) == wanted, f"children {way}: {run.status} {run.ours()}")
+        (folder / "made.txt").unlink(missing_ok=True)
+        again = trial.rerun("../children.log", folder=folder)
+        trial.check(again.status == (4 if way == 10 else 3), f"children {way}: rerun: {again.status} {again.ours()}")
+        trial.check(not (folder / "made.txt").exists(), f"children {way}: a rerun starts a program")
+
+
+def compiles(words: list[str]) -> bool:
+    """Whether a compiler takes these words."""
+    return subprocess.run(words, stdout=subprocess.DEVNULL, stderr=subprocess.DEVNULL).returncode == 0
+
+
+def units(trial: Trial) -> None:
+    """The parts of the library that need no program, under sanitizers where the compiler has them."""
+    to = trial.room / "units"
+    words = [os.environ.get("CC", "cc"), "-std=gnu11", "-g", "-Wall", "-Wextra", "-o", str(to), f"-I{trial.sources}",
+             f"-I{repository.TOP}/bindings/c", str(TESTS / "units/units.c"),
+             *(str(trial.sources / f"{name}.c") for name in ("about", "sha256", "heap"))]
+    if not compiles([*words, "-fsanitize=address,undefined", "-fno-sanitize-recover=all"]):
+        trial.leaves_out("sanitizers", 1)
+        if not trial.check(compiles(words), "units: the compiler refuses them"):
+            return
+    ran = trial.launch(str(to), folder=trial.room)
+    trial.check(ran.status == 0, f"units: status {ran.status}: {(ran.out + ran.err).decode(errors='replace')[-1000:]}")
+
+
+def sanitized(trial: Trial, *, launcher: bool) -> Trial | None:
+    """The launcher or the preload library under sanitizers, in a folder of its own; None where that cannot be."""
+    folder = trial.room / ("launcher" if launcher else "undefined")
+    folder.mkdir()
+    room = trial.room / f"of-{folder.name}"
+    found = Trial(folder, room, trial.sources, trial.seconds, {"ASAN_OPTIONS": "detect_leaks=0"})
+    found.room.mkdir()
+    os.symlink(trial.room / "programs", found.room / "programs")
+    if launcher:
+        shutil.copy(trial.library / "libdetio_preload.so", folder)
+        sources = [str(trial.sources / f"{name}.c") for name in ("launch", "about", "sha256")]
+        made = compiles([os.environ.get("CC", "cc"), "-std=c11", "-g", "-fsanitize=address,undefined",
+                         "-fno-sanitize-recover=all", "-o", str(folder / "detio-launch"), *sources])
+        return found if made else None
+    os.symlink(trial.library / "objects", folder / "objects")
+    flags = "-fsanitize=undefined -fsanitize-undefined-trap-on-error"
+    made = subprocess.run([f"{repository.TOP}/tools/link-preload", str(folder)], env={**os.environ, "CFLAGS": flags},
+                          stdout=subprocess.DEVNULL, stderr=subprocess.DEVNULL).returncode == 0
+    return found if made else None
+
+
+def sanitizers(trial: Trial) -> None:
+    """The launcher and the preload library again, under sanitizers."""
+    for launcher in True, False:
+        other = sanitized(trial, launcher=launcher)
+        if not other:
+            trial.leaves_out("sanitizers", 1)
+            continue
+        if launcher:
+            statuses(other)
+            differing(other)
+        else:
+            for case in CASES:
+                if case.words[0].startswith("@") and not case.needs:
+                    try_case(replace(case, reruns=1), other)
+        trial.checks += other.checks
+        trial.faults += [f"sanitizers: {it}" for it in other.faults]
+
+
+def ask_server(port: int, clients: int) -> None:
+    """Clients that ask a server of ours, beside one another."""
+    import socket
+
+    def one(number: int) -> None:
+        with socket.create_connection(("127.0.0.1", port), timeout=30) as stream, stream.makefile("rwb") as lines:
+            for turn in range(40):
+                lines.write(b"%d %d\n" % (turn % 5, number))
+                lines.flush()
+                lines.readline()
+
+    threads = [threading.Thread(target=one, args=(number,)) for number in range(clients)]
+    for it in threads:
+        it.start()
+    for it in threads:
+        it.join()
+
+
+def port_said(path: pathlib.Path) -> int:
+    """The port that a server prints, once it does."""
+    for _ in range(500):
+        words = path.read_text(encoding="ascii").split()
+        if len(words) >= 2:
+            return int(words[1])
+        time.sleep(0.02)
+    return 0
+
+
+def server(trial: Trial) -> None:
+    """A server with eight clients of another process, rerun with nobody at its port."""
+    folder = trial.room / "server"
+    make_inputs(folder)
+    words = [str(trial.library / "detio-launch"), "run", "--log", "server.log", "--force", "--",
+             str(trial.room / "programs/server"), "8"]
+    with open(folder / "printed", "wb") as out:
+        process = subprocess.Popen(words, cwd=folder, stdout=out, stdin=subprocess.DEVNULL, env=trial.environment())
+        try:
+            ask_server(port_said(folder / "printed"), 8)
+            process.wait(SECONDS)
+        finally:
+            process.kill()
+    trial.check(process.returncode == 0, f"server: status {process.returncode}")
+    (folder / "journal.txt").unlink()
+    before = (folder / "printed").read_bytes()
+    for number in range(5):
+        again = trial.rerun("server.log", folder=folder)
+        trial.check((again.status, again.out) == (0, before), f"server: rerun {number}: {again.status} {again.ours()}")
+        trial.check(not (folder / "journal.txt").exists(), f"server: rerun {number} wrote a journal")
+
+
+def web_server(trial: Trial) -> None:
+    """Python's web server, asked by several at once and killed, rerun to its end."""
+    if not os.path.exists("/usr/bin/python3"):
+        trial.leaves_out("/usr/bin/python3", 6)
+        return
+    folder = trial.room / "web"
+    make_inputs(folder)
+    script = ("import http.server, functools; h = functools.partial(http.server.SimpleHTTPRequestHandler, directory='.'); "
+              "s = http.server.ThreadingHTTPServer(('127.0.0.1', 0), h); print('port', s.server_port, flush=True); "
+              "s.serve_forever()")
+    words = [str(trial.library / "detio-launch"), "run", "--log", "web.log", "--force", "--", "/usr/bin/python3", "-S", "-c",
+             script]
+    with open(folder / "printed", "wb") as out, open(folder / "said", "wb") as err:
+        process = subprocess.Popen(words, cwd=folder, stdout=out, stderr=err, stdin=subprocess.DEVNULL,
+                                   env=trial.environment())
+        port = port_said(folder / "printed")
+        asked = [threading.Thread(target=fetch, args=(port, name)) for name in ("data.txt", "input.txt", "data.txt", "")]
+        for it in asked:
+            it.start()
+        for it in asked:
+            it.join()
+        time.sleep(0.2)
+        process.send_signal(signal.SIGKILL)
+        process.wait()
+    said = Ran(0, (folder / "printed").read_bytes(), (folder / "said").read_bytes())
+    trial.check(said.err.count(b"\n") >= 4, "web: not all were answered")
+    (folder / "data.txt").unlink()
+    for number in range(5):
+        again = trial.rerun("web.log", folder=folder)
+        trial.check(again.status == LOG_ENDS and again.alone()[1:] == said.alone()[1:], f"web: rerun {number}: {again.status}")
+
+
+def fetch(port: int, name: str) -> None:
+    """Reads a page."""
+    try:
+        with urllib.request.urlopen(f"http://127.0.0.1:{port}/{name}", timeout=30) as page:
+            page.read()
+    except OSError:
+        return
+
+
+def table() -> Iterator[tuple[str, str, str]]:
+    """The rows of the table of functions: name, how it is covered, and the test."""
+    with open(PRELOAD / "interposed.txt", encoding="ascii") as file:
+        for line in file:
+            if line.strip() and not line.startswith("#"):
+                name, how, test = line.split()
+                yield name, how, test
+
+
+def calls_of(test: str, trial: Trial) -> set[str]:
+    """What one of our own programs has of the C library: by its linker, and by their names in quotes."""
+    listed = subprocess.run(["nm", "-D", "--undefined-only", str(trial.room / "programs" / test)], capture_output=True,
+                            text=True).stdout
+    source = TESTS / f"{test}.c"
+    quoted = re.findall(r'"(\w+)"', source.read_text(encoding="ascii")) if source.exists() else []
+    return {line.split()[-1].split("@")[0] for line in listed.splitlines()} | set(quoted)
+
+
+def compare_table(trial: Trial) -> None:
+    """Each function that the library has in place of the C library's has its row, and each row its function and test."""
+    listed = subprocess.run(["nm", "-D", "--defined-only", str(trial.library / "libdetio_preload.so")], capture_output=True,
+                            text=True, check=True).stdout
+    there = {line.split()[2] for line in listed.splitlines() if line.split()[1] in "TWi"}
+    rows = {name: test for name, _, test in table()}
+    trial.check(not there - set(rows), f"no row in interposed.txt: {' '.join(sorted(there - set(rows)))}")
+    trial.check(not set(rows) - there, f"not in the library: {' '.join(sorted(set(rows) - there))}")
+    tests = {it.name.split()[0] for it in CASES} | set(OTHERS)
+    unknown = sorted(set(rows.values()) - tests)
+    trial.check(not unknown, f"no test of this name: {' '.join(unknown)}")
+    called = {it: calls_of(it, trial) for it in tests & set(rows.values())}
+    lacking = sorted(f"{it} by {test}" for it, test in rows.items() if test in called and it not in called[test])
+    trial.check(not lacking, f"not called by its test: {', '.join(lacking)}")
+
+
+OTHERS: dict[str, Callable[[Trial], None]] = {
+    "table": compare_table, "closed": closed_program, "killed": killed, "differing": differing, "statuses": statuses,
+    "stuck": stuck, "net": net, "passed": passed, "faults": faults, "seeds": seeds, "children": children, "units": units,
+    "sanitizers": sanitizers,
+    "addresses": addresses, "hang": hang_of_pigz, "server": server, "web": web_server}
