@@ -59,6 +59,7 @@ EXPORT int getrusage(__rusage_who_t who, struct rusage *to) {
 
 /* Sleeps: waits that nobody else ends. */
 static int sleeps_until(clockid_t clock, const struct timespec *until) {
+  pthread_testcancel();
   turn();
   (void)wait_until(NULL, clock, until);
   return 0;

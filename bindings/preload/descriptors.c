@@ -126,14 +126,18 @@ int opens_at(int at, const char *path, int how, int mode) {
   return fd;
 }
 
+/* The number that a name below /dev/fd or /proc/self/fd has, or -1: the host's numbers are others. */
+int number_named(const char *path) {
+  const char *number = !strncmp(path, "/dev/fd/", 8) ? path + 8 : !strncmp(path, "/proc/self/fd/", 14) ? path + 14 : "";
+  return *number >= '0' && *number <= '9' && !strchr(number, '/') ? atoi(number) : -1;
+}
 static int opens(int at, const char *path, int how, int mode) {
   if (!strncmp(path, "/dev/std", 8)) {
     int fd = !strcmp(path + 8, "in") ? 0 : !strcmp(path + 8, "out") ? 1 : !strcmp(path + 8, "err") ? 2 : -1;
     if (fd >= 0) return dup(fd);
   }
-  const char *number = !strncmp(path, "/dev/fd/", 8) ? path + 8 : !strncmp(path, "/proc/self/fd/", 14) ? path + 14 : "";
-  if (*number >= '0' && *number <= '9' && !strchr(number, '/')) return dup(atoi(number));
-  return opens_at(at, path, how, mode);
+  int number = number_named(path);
+  return number >= 0 ? dup(number) : opens_at(at, path, how, mode);
 }
 
 /* The mode that comes after the flags of an opening. */
@@ -286,6 +290,7 @@ static ssize_t write_standard(int to, const char *bytes, size_t count) {
 }
 static ssize_t writes(int fd, const char *bytes, size_t count, off_t at) {
   const opened_file *f = opened_at(fd);
+  if (f->kind == STANDARD && at >= 0) return errno = ESPIPE, -1; /* as of a pipe: see lseek */
   if (f->kind == STANDARD) return write_standard(f->real, bytes, count);
   if (at < 0) digest(bytes, f->kind == HOST || f->kind == STREAM ? count : 0);
   size_t done = 0;
@@ -660,14 +665,16 @@ static int select_all(int count, fd_set *in, fd_set *out, fd_set *other, int64_t
   struct pollfd fds[64];
   nfds_t n = 0;
   int ready = 0;
+  if (count < 0) return errno = EINVAL, -1;
   for (int fd = 0; fd < count && n < 64; fd++) {
     short events = (in && FD_ISSET(fd, in) ? POLLIN : 0) | (out && FD_ISSET(fd, out) ? POLLOUT : 0);
     if (events) fds[n++] = (struct pollfd){fd, events, 0};
   }
   if (poll_all(fds, n, nanos) < 0) return -1;
-  if (in) FD_ZERO(in);
-  if (out) FD_ZERO(out);
-  if (other) FD_ZERO(other);
+  size_t bytes = ((size_t)count + 63) / 64 * 8; /* a set may be no longer than its numbers take */
+  if (in) memset(in, 0, bytes);
+  if (out) memset(out, 0, bytes);
+  if (other) memset(other, 0, bytes);
   for (nfds_t i = 0; i < n; i++) {
     if (fds[i].revents & POLLNVAL) return errno = EBADF, -1;
     if (fds[i].events & POLLIN && fds[i].revents & (POLLIN | POLLHUP | POLLERR)) FD_SET(fds[i].fd, in), ready++;
@@ -703,6 +710,9 @@ EXPORT void *mmap(void *at, size_t length, int prot, int flags, int fd, off_t fr
     once("mmap", "a shared mapping of descriptor %d for writing is not covered: refused", fd);
     return errno = ENODEV, MAP_FAILED;
   }
+  if ((flags & MAP_SHARED) && (get_flags(fd) & O_ACCMODE) != O_RDONLY)
+    once("mmap shared", "the shared mapping of descriptor %d is a copy: what is written to the file later is not in it",
+         fd);
   char *bytes = map(at, length, PROT_READ | PROT_WRITE, (flags & ~MAP_SHARED) | MAP_PRIVATE | MAP_ANONYMOUS, -1, 0);
   if (bytes == MAP_FAILED) return bytes;
   for (size_t done = 0; done < length;) {
@@ -739,18 +749,22 @@ void begin_descriptors(void) {
     most.rlim_cur = most.rlim_max < NATIVE + 128 ? most.rlim_max : NATIVE + 128;
     KERNEL(SYS_setrlimit, RLIMIT_NOFILE, &most);
   }
-  int empty = (int)KERNEL(SYS_open, "/dev/null", O_PATH | O_CLOEXEC, 0);
+  int lowest = (int)KERNEL(SYS_open, "/dev/null", O_PATH | O_CLOEXEC, 0);
+  int empty = (int)KERNEL(SYS_fcntl, lowest, F_DUPFD_CLOEXEC, 3); /* a standard number that is closed stays so */
+  KERNEL(SYS_close, lowest);
   for (int fd = 3; fd < NATIVE; fd++)
     if (fd != empty && KERNEL(SYS_fcntl, fd, F_GETFD) == -EBADF) KERNEL(SYS_dup3, empty, fd, O_CLOEXEC);
-  int above = (int)KERNEL(SYS_dup, empty);
+  int above = (int)KERNEL(SYS_fcntl, empty, F_DUPFD_CLOEXEC, 3);
   if (above < NATIVE) ends(OURS, "the host has too few descriptors: a run needs more than %d", NATIVE);
   KERNEL(SYS_close, above);
   compare_about();
   int64_t kind = asks(ASK_KIND, input, NULL, 0, NULL, 0);
-  opened_file *f = new_opened(0, kind < 0 ? MEMORY : HOST, input);
-  if (kind >= 0) set_kind(f, kind);
+  if (kind >= 0) set_kind(new_opened(0, HOST, input), kind);
+  else (void)call_on(0, DETIO_CLOSE, 0);
   for (int fd = 1; fd < 3; fd++) {
     if (asks(ASK_KIND, fd, NULL, 0, NULL, 0) >= 0) new_opened(fd, STANDARD, fd);
     else (void)call_on(fd, DETIO_CLOSE, 0);
   }
+  for (int fd = 0; fd < 3; fd++)
+    if (KERNEL(SYS_fcntl, fd, F_GETFD) == -EBADF) KERNEL(SYS_dup3, empty, fd, O_CLOEXEC);
 }

@@ -36,6 +36,11 @@ static FILE *ours(FILE *file) {
   return file;
 }
 
+bool is_stream(FILE **file) {
+  *file = ours(*file);
+  return stream_of(*file) != NULL;
+}
+
 static ssize_t read_stream(void *at, char *bytes, size_t count) { return read(((stream *)at)->fd, bytes, count); }
 static ssize_t write_stream(void *at, const char *bytes, size_t count) {
   ssize_t done = write(((stream *)at)->fd, bytes, count);
@@ -113,6 +118,7 @@ static void set_mode(FILE *file, int how) {
   file->_flags &= ~(NO_READS | NO_WRITES);
   if ((how & O_ACCMODE) == O_RDONLY) file->_flags |= NO_WRITES;
   if ((how & O_ACCMODE) == O_WRONLY) file->_flags |= NO_READS;
+  file->_offset = -1; /* it is at no place that is known */
 }
 EXPORT FILE *freopen(const char *path, const char *mode, FILE *file) {
   NEXT(freopen);

@@ -114,18 +114,21 @@ EXPORT int pthread_cond_wait(pthread_cond_t *c, pthread_mutex_t *p) {
   NEXT(pthread_cond_wait);
   OFF(next(c, p));
   mutex *m = (mutex *)p;
+  pthread_testcancel();
   turn();
   int count = m->count;
   slots[me].then = m;
   pass_on(m);
   park(c);
+  slots[me].then = NULL;
   m->count = count;
   turn_end();
+  pthread_testcancel();
   return 0;
 }
 
 /* At the turn: who waits for a condition waits for its mutex now, or has it. */
-static void move_on(int w) {
+void move_on(int w) {
   mutex *m = slots[w].then;
   if (!m) {
     unpark(w);
@@ -227,10 +230,11 @@ EXPORT int sem_getvalue(sem_t *s, int *value) {
 }
 
 /* Readers and writers: -1 is a writer, else how many readers there are. A writer that waits goes before readers that
- * come later. */
+ * come later where the lock says so; elsewhere who reads already may read once more. */
 static bool must_wait(pthread_rwlock_t *p, bool writes) {
   int n = *(int *)p, w = first_waiter(p);
-  return writes ? n != 0 : n < 0 || (w >= 0 && slots[w].flag);
+  bool writer_first = p->__data.__flags == PTHREAD_RWLOCK_PREFER_WRITER_NONRECURSIVE_NP;
+  return writes ? n != 0 : n < 0 || (writer_first && w >= 0 && slots[w].flag);
 }
 static int take_rwlock(pthread_rwlock_t *p, bool writes, bool tries, clockid_t clock, const struct timespec *until) {
   int *n = (int *)p;

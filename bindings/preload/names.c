@@ -13,6 +13,7 @@
 #include <sys/random.h>
 #include <sys/stat.h>
 #include <sys/statvfs.h>
+#include <sys/sysmacros.h>
 #include <sys/time.h>
 #include <sys/vfs.h>
 #include <sys/xattr.h>
@@ -238,6 +239,7 @@ EXPORT int fstatat(int at, const char *p, struct stat *to, int f) {
   if ((f & AT_EMPTY_PATH) && !*p) return at == AT_FDCWD ? fstatat(at, ".", to, 0) : fstat(at, to);
   if (!asked_of_us(p)) return next(at, p, to, f);
   if (in_memory(p)) return stat_tree(in_memory(p), to);
+  if (number_named(p) >= 0 && !(f & AT_SYMLINK_NOFOLLOW)) return fstat(number_named(p), to);
   return (int)asks(ASK_STAT, base(at, p), p, f & ~AT_EMPTY_PATH, to, sizeof *to);
 }
 EXPORT int fstatat64(int at, const char *p, struct stat64 *to, int f) { return fstatat(at, p, (struct stat *)to, f); }
@@ -284,10 +286,10 @@ EXPORT int statx(int at, const char *p, int f, unsigned mask, struct statx *to) 
   to->stx_atime = (struct statx_timestamp){.tv_sec = s.st_atim.tv_sec, .tv_nsec = (uint32_t)s.st_atim.tv_nsec};
   to->stx_mtime = (struct statx_timestamp){.tv_sec = s.st_mtim.tv_sec, .tv_nsec = (uint32_t)s.st_mtim.tv_nsec};
   to->stx_ctime = (struct statx_timestamp){.tv_sec = s.st_ctim.tv_sec, .tv_nsec = (uint32_t)s.st_ctim.tv_nsec};
-  to->stx_rdev_major = (uint32_t)(s.st_rdev >> 8 & 0xfff);
-  to->stx_rdev_minor = (uint32_t)(s.st_rdev & 0xff);
-  to->stx_dev_major = (uint32_t)(s.st_dev >> 8 & 0xfff);
-  to->stx_dev_minor = (uint32_t)(s.st_dev & 0xff);
+  to->stx_rdev_major = major(s.st_rdev);
+  to->stx_rdev_minor = minor(s.st_rdev);
+  to->stx_dev_major = major(s.st_dev);
+  to->stx_dev_minor = minor(s.st_dev);
   return 0;
 }
 EXPORT int statfs(const char *p, struct statfs *to) {
@@ -395,9 +397,9 @@ EXPORT char *getcwd(char *to, size_t room) {
   char path[PATH_MAX];
   if (to && !room) return errno = EINVAL, NULL;
   if (asks(ASK_GETCWD, AT_FDCWD, NULL, 0, path, sizeof path) < 0) return NULL;
-  if (!to) return strdup(path);
-  if (strlen(path) >= room) return errno = ERANGE, NULL;
-  return strcpy(to, path);
+  if ((to || room) && strlen(path) >= room) return errno = ERANGE, NULL;
+  if (!to) to = malloc(room ? room : strlen(path) + 1);
+  return to ? strcpy(to, path) : NULL;
 }
 EXPORT char *get_current_dir_name(void) { return getcwd(NULL, 0); }
 EXPORT char *__getcwd_chk(char *to, size_t room, size_t has) {
@@ -409,7 +411,9 @@ static ssize_t read_link(int at, const char *p, char *to, size_t room) {
   char path[PATH_MAX];
   size_t length = 0;
   if (in_memory(p)) return errno = EINVAL, -1;
-  if (ask(&(question){.what = ASK_READLINK, .at = at, .path = p, .room = sizeof path}, path, &length) < 0) return -1;
+  bool host = number_named(p) >= 0 && opened_at(number_named(p))->kind == HOST;
+  if (ask(&(question){.what = ASK_READLINK, .at = host ? real_of(number_named(p)) : at, .path = p, .a = host,
+                      .room = sizeof path}, path, &length) < 0) return -1;
   if (length > room) length = room;
   memcpy(to, path, length);
   return (ssize_t)length;
@@ -538,9 +542,10 @@ EXPORT char *mkdtemp(char *name) {
 typedef struct {
   uint64_t mark;
   int fd;
-  int64_t have, at, seen;
+  int64_t have, at;
+  int64_t seen, to; /* the place behind the last name; and where to go before the next, or -1 */
   struct dirent entry;
-  uint8_t bytes[16000];
+  uint8_t bytes[16384];
 } listing;
 static bool is_listing(DIR *d) { return ((listing *)d)->mark == LISTING; }
 EXPORT DIR *fdopendir(int fd) {
@@ -553,6 +558,7 @@ EXPORT DIR *fdopendir(int fd) {
   memset(l, 0, offsetof(listing, bytes));
   l->mark = LISTING;
   l->fd = fd;
+  l->to = -1;
   return (DIR *)l;
 }
 EXPORT DIR *opendir(const char *p) {
@@ -568,8 +574,9 @@ static bool more(listing *l) {
   if (l->at < l->have) return true;
   l->at = 0;
   size_t length = 0;
-  l->have = ask(&(question){.what = ASK_LISTING, .at = real_of(l->fd), .a = l->seen, .room = sizeof l->bytes}, l->bytes,
+  l->have = ask(&(question){.what = ASK_LISTING, .at = real_of(l->fd), .a = l->to, .room = sizeof l->bytes}, l->bytes,
                 &length);
+  l->to = -1;
   return l->have > 0;
 }
 EXPORT struct dirent *readdir(DIR *d) {
@@ -581,11 +588,12 @@ EXPORT struct dirent *readdir(DIR *d) {
   if (!more(l)) return l->have < 0 ? NULL : (errno = kept, NULL);
   memset(&l->entry, 0, sizeof l->entry);
   memcpy(&l->entry.d_ino, l->bytes + l->at, 8);
-  l->entry.d_type = l->bytes[l->at + 8];
-  strncpy(l->entry.d_name, (char *)l->bytes + l->at + 9, sizeof l->entry.d_name - 1);
+  memcpy(&l->seen, l->bytes + l->at + 8, 8);
+  l->entry.d_type = l->bytes[l->at + 16];
+  strncpy(l->entry.d_name, (char *)l->bytes + l->at + 17, sizeof l->entry.d_name - 1);
   l->entry.d_reclen = sizeof l->entry;
-  l->entry.d_off = ++l->seen;
-  l->at += (int64_t)strlen(l->entry.d_name) + 10;
+  l->entry.d_off = l->seen;
+  l->at += (int64_t)strlen(l->entry.d_name) + 18;
   errno = kept;
   return &l->entry;
 }
@@ -610,7 +618,7 @@ EXPORT void seekdir(DIR *d, long to) {
     next(d, to);
     return;
   }
-  ((listing *)d)->seen = to;
+  ((listing *)d)->seen = ((listing *)d)->to = to;
   ((listing *)d)->at = ((listing *)d)->have = 0;
 }
 EXPORT void rewinddir(DIR *d) {

@@ -6,6 +6,7 @@
 
 #include <fcntl.h>
 #include <sched.h>
+#include <stdio.h>
 #include <stdlib.h>
 #include <string.h>
 #include <sys/file.h>
@@ -16,6 +17,7 @@
 #include <sys/syscall.h>
 #include <sys/times.h>
 #include <sys/vfs.h>
+#include <unistd.h>
 
 /* The door of the oracle: no descriptor of the host has this number. */
 #define ORACLE_DOOR (1ull << 20)
@@ -50,26 +52,22 @@ static void digest_question(const question *q) {
   if (q->length && q->what > LAST_SURE) digest(q->bytes, q->length);
 }
 
-/* The names in a directory from the a-th on, each after its number and its kind, as many as have room. */
+/* The next names in a directory, or those from a place on, each after its number, the place behind it and its kind. The
+ * kernel has them in more bytes than they take here, so all that it gives have room. */
+enum { DENTS = 8192 };
 static long listing(int directory, long from, uint8_t *out, size_t room) {
-  static __thread char piece[8192];
-  long n, seen = 0, used = 0;
-  int at = (int)KERNEL(SYS_openat, directory, ".", O_RDONLY | O_DIRECTORY | O_CLOEXEC, 0);
-  if (at < 0) return at;
-  while ((n = KERNEL(SYS_getdents64, at, piece, sizeof piece)) > 0) {
-    for (long here = 0; here < n; here += *(unsigned short *)(piece + here + 16)) {
-      size_t length = 8 + 1 + strlen(piece + here + 19) + 1;
-      if (seen++ < from) continue;
-      if (used + length > room) goto full;
-      memcpy(out + used, piece + here, 8);
-      out[used + 8] = (uint8_t)piece[here + 18];
-      memcpy(out + used + 9, piece + here + 19, length - 9);
-      used += (long)length;
+  const char *piece = (const char *)slots[me].room + ROOM - DENTS;
+  long n = from < 0 ? 0 : KERNEL(SYS_lseek, directory, from, SEEK_SET), used = 0;
+  while (n >= 0 && (size_t)used + DENTS <= room && (n = KERNEL(SYS_getdents64, directory, piece, DENTS)) > 0) {
+    for (long here = 0; here < n; here += *(const unsigned short *)(piece + here + 16)) {
+      size_t length = strlen(piece + here + 19) + 1;
+      memcpy(out + used, piece + here, 16);
+      out[used + 16] = (uint8_t)piece[here + 18];
+      memcpy(out + used + 17, piece + here + 19, length);
+      used += 17 + (long)length;
     }
   }
-full:
-  KERNEL(SYS_close, at);
-  return n < 0 ? n : used;
+  return n < 0 && !used ? n : used;
 }
 
 /* The kind of file that is open, as the bits of its mode. */
@@ -91,6 +89,7 @@ static long number(long which) {
 
 /* Asks the host about names. */
 static long ask_names(const question *q, uint8_t *out) {
+  char number[32]; /* the name of what is open */
   switch (q->what) {
   case ASK_STAT: return KERNEL(SYS_newfstatat, q->at, q->path, out, q->a);
   case ASK_STATFS: return KERNEL(SYS_statfs, q->path, out);
@@ -106,7 +105,9 @@ static long ask_names(const question *q, uint8_t *out) {
   case ASK_CHMOD: return KERNEL(SYS_fchmodat, q->at, q->path, q->a);
   case ASK_CHOWN: return KERNEL(SYS_fchownat, q->at, q->path, (uint32_t)q->a, (uint32_t)(q->a >> 32), q->b);
   case ASK_UTIMES: return KERNEL(SYS_utimensat, q->at, q->path, q->bytes, q->a);
-  case ASK_READLINK: return KERNEL(SYS_readlinkat, q->at, q->path, out, q->room);
+  case ASK_READLINK:
+    snprintf(number, sizeof number, "/proc/self/fd/%d", q->at);
+    return KERNEL(SYS_readlinkat, q->at, q->a ? number : q->path, out, q->room);
   case ASK_GETCWD: return KERNEL(SYS_getcwd, out, q->room);
   case ASK_CHDIR: return KERNEL(SYS_chdir, q->path);
   case ASK_GETXATTR: return KERNEL(q->b ? SYS_lgetxattr : SYS_getxattr, q->path, q->second, out, q->a);

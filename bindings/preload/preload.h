@@ -153,6 +153,9 @@ int others_alive(void);
 void finish_run(void);
 extern detio machine;
 
+/* locks.c */
+void move_on(int w);
+
 /* outside.c */
 uint32_t go_outside(void);
 int64_t ask(const question *, void *answer, size_t *length);
@@ -186,6 +189,7 @@ typedef struct {
 bool is_ours(int fd);
 opened_file *opened_at(int fd);
 int real_of(int fd);
+int number_named(const char *path);
 int fails(uint32_t error);
 int takes_door(int real);  /* a number for what is open at the host, of a recording, or of its log */
 int opens_at(int at, const char *path, int how, int mode);
@@ -203,6 +207,7 @@ bool asked_of_us(const char *path);  /* whether the run answers for a path */
 /* files.c */
 void begin_files(void);
 struct _IO_FILE *new_stream(int fd, const char *mode);
+bool is_stream(struct _IO_FILE **file); /* whether a FILE is ours, also where it was kept from before the run */
 
 /* process.c */
 void begin_processes(void);

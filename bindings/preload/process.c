@@ -10,27 +10,52 @@
 #include <stdlib.h>
 #include <string.h>
 #include <sys/syscall.h>
+#include <sys/time.h>
 #include <sys/wait.h>
 #include <unistd.h>
 
 /* Waits for signals are waits for the outside. */
 typedef struct { const sigset_t *set; const struct timespec *time; int16_t number; bool suspends; } signals;
+#define HANDLED (~(3ull << 31)) /* all but the two that are the C library's own */
+/* Whether this signal has no handler and no effect, so that nobody is woken by it. */
+static bool is_ignored(long number) {
+  struct { uintptr_t handler; unsigned long flags; void *restorer; uint64_t mask; } act = {0};
+  if (KERNEL(SYS_rt_sigaction, number, NULL, &act, 8)) return false;
+  bool quiet = number == SIGCHLD || number == SIGURG || number == SIGWINCH || number == SIGCONT;
+  return act.handler == (uintptr_t)SIG_IGN || (act.handler == (uintptr_t)SIG_DFL && quiet);
+}
 static void wait_signal(void *given) {
   signals *w = given;
-  long r = w->suspends ? KERNEL(SYS_rt_sigsuspend, w->set, 8) : KERNEL(SYS_rt_sigtimedwait, w->set, NULL, w->time, 8);
+  uint64_t set;
+  long r;
+  memcpy(&set, w->set, sizeof set);
+  if (w->suspends) set = ~set & HANDLED;
+  do r = KERNEL(SYS_rt_sigtimedwait, &set, NULL, w->time, 8);
+  while (w->suspends && (r == -EINTR || (r > 0 && is_ignored(r))));
   w->number = (int16_t)(r == -EAGAIN ? -EAGAIN : r == -EINTR ? -EINTR : r);
 }
-/* Of a rerun, a signal that a thread of the run sent is pending: it is taken as the wait took it. */
+/* A signal that suspended a thread comes once more, now that it has the turn: so its handler may call what it likes, in
+ * a rerun too. Of a rerun, one that a thread of the run sent is pending: it is taken as the wait took it. */
 static void take_again(const signals *w) {
   static const struct timespec now = {0, 0};
-  if (!run.replays) return;
-  if (w->suspends) KERNEL(SYS_ppoll, NULL, 0, &now, w->set, 8);
-  else if (w->number > 0) KERNEL(SYS_rt_sigtimedwait, w->set, NULL, &now, 8);
+  static const struct itimerval none;
+  uint64_t pending = 0;
+  if (!w->suspends && run.replays && w->number > 0) KERNEL(SYS_rt_sigtimedwait, w->set, NULL, &now, 8);
+  if (!w->suspends) return;
+  if (run.replays && w->number == SIGALRM) KERNEL(SYS_setitimer, ITIMER_REAL, &none, NULL);
+  KERNEL(SYS_rt_sigpending, &pending, 8);
+  if (w->number > 0 && !(pending >> (w->number - 1) & 1))
+    KERNEL(SYS_tgkill, KERNEL(SYS_getpid, 0), KERNEL(SYS_gettid, 0), w->number);
+  KERNEL(SYS_ppoll, NULL, 0, &now, w->set, 8);
 }
 static int await_signal(signals *w) {
+  static const uint64_t all = HANDLED;
+  uint64_t kept;
+  if (w->suspends) KERNEL(SYS_rt_sigprocmask, SIG_BLOCK, &all, &kept, 8);
   turn();
   wait_outside(wait_signal, w, &w->number, 1);
   take_again(w);
+  if (w->suspends) KERNEL(SYS_rt_sigprocmask, SIG_SETMASK, &kept, NULL, 8);
   return w->number;
 }
 EXPORT int sigwait(const sigset_t *set, int *number) {
@@ -127,10 +152,7 @@ EXPORT pid_t fork(void) {
   NEXT(fork);
   OFF(next());
   if (starts_none("fork")) return errno = ENOSYS, -1;
-  inside++;
-  pid_t child = next();
-  inside--;
-  return child;
+  return next(); /* handlers of pthread_atfork are the program's own code */
 }
 EXPORT pid_t vfork(void) { return fork(); }
 EXPORT pid_t _Fork(void) { return fork(); }

@@ -5,6 +5,7 @@
 
 #include <limits.h>
 #include <sched.h>
+#include <stdlib.h>
 #include <threads.h>
 
 /* The destructors of keys, which a thread runs itself, in the order of the keys. */
@@ -54,6 +55,10 @@ static void leave(void *given) {
   if (!takes_part()) return;
   if (slots[i].digest) (void)asks(ASK_CLOSED, 0, NULL, 0, NULL, 0);
   turn();
+  if (!others_alive()) { /* who leaves last ends the process, as in the C library, but while it has its number */
+    turn_end();
+    exit(0);
+  }
   int waiter = first_waiter(&slots[i]);
   slots[i].state = slots[i].detached ? FREE : DONE;
   slots[i].parked = true;
@@ -99,6 +104,16 @@ static int take_slot(bool detached) {
   return i;
 }
 
+/* Our calls need more room than libc's: a small stack is made larger while its thread is created. The size it had, or
+ * 0. */
+static size_t widen(const pthread_attr_t *attr) {
+  size_t size = 0, other;
+  void *at = NULL;
+  if (!attr || pthread_attr_getstacksize(attr, &size) || size >= 1 << 17) return 0;
+  if (!pthread_attr_getstack(attr, &at, &other) && (uintptr_t)at + other) return 0; /* the program's own */
+  return pthread_attr_setstacksize((pthread_attr_t *)attr, size + (1 << 16)) ? 0 : size;
+}
+
 EXPORT int pthread_create(pthread_t *thread, const pthread_attr_t *attr, void *(*begins)(void *), void *given) {
   NEXT(pthread_create);
   OFF(next(thread, attr, begins, given));
@@ -110,7 +125,9 @@ EXPORT int pthread_create(pthread_t *thread, const pthread_attr_t *attr, void *(
   if (s) {
     *s = (start){begins, given, i};
     inside++;
+    size_t size = widen(attr);
     code = next(thread, attr, run_thread, s);
+    if (size) (void)pthread_attr_setstacksize((pthread_attr_t *)attr, size);
     inside--;
     for (int k = 0; !code && k < SLOTS; k++)
       if (k != i && slots[k].state == DONE && pthread_equal(slots[k].id, *thread)) slots[k].state = FREE;
@@ -196,6 +213,20 @@ EXPORT int pthread_detach(pthread_t thread) {
   inside++;
   int code = next(thread);
   inside--;
+  turn_end();
+  return code;
+}
+/* A thread that is cancelled ends at its next sleep or wait for a condition; from such a wait it wakes for that. */
+EXPORT int pthread_cancel(pthread_t thread) {
+  NEXT(pthread_cancel);
+  OFF(next(thread));
+  once("cancel", "pthread_cancel: a thread ends at its next sleep or wait for a condition, and nowhere else");
+  turn();
+  int i = slot_of(thread);
+  inside++;
+  int code = next(thread);
+  inside--;
+  if (i >= 0 && slots[i].parked && slots[i].then) move_on(i);
   turn_end();
   return code;
 }

@@ -277,7 +277,9 @@ void park_outside(void (*ready)(void *), void *given) {
   lie_down(NULL, true);
   if (!run.replays) {
     unlock_run();
+    inside++; /* as in nap_until */
     ready(given);
+    inside--;
     lock_run();
     slots[me].ready = true;
   }

@@ -58,6 +58,7 @@ CASES = (
     Case("descriptors", ("@descriptors",), input="input.txt"),
     Case("names", ("@names",), input="input.txt"),
     Case("files", ("@files",), input="input.txt"),
+    Case("wide", ("@wide",), input="input.txt"),
     Case("locks", ("@locks",)),
     Case("threads", ("@threads",)),
     Case("sockets", ("@sockets",)),
@@ -365,6 +366,21 @@ def addresses(trial: Trial) -> None:
     trial.check(b"fixed=yes" not in (folder / "other.log").read_bytes(), "addresses: the log says that they are fixed")
 
 
+def closed_numbers(trial: Trial) -> None:
+    """Standard numbers that are closed at the start are closed in the run, and the next openings have them."""
+    folder = trial.room / "numbers"
+    make_inputs(folder)
+    program, launcher = str(trial.room / "programs/opens"), str(trial.library / "detio-launch")
+    for closed in "<&-", "<&- >&-", "<&- 2>&-":
+        alone = trial.launch("/bin/sh", "-c", f"exec {program} alone.txt {closed}", folder=folder)
+        ran = trial.launch("/bin/sh", "-c", f"exec {launcher} run --log numbers.log --force -- {program} run.txt {closed}",
+                           folder=folder)
+        said = [(folder / it).read_bytes() for it in ("alone.txt", "run.txt")]
+        trial.check(ran.status == alone.status == 0 and said[0] == said[1], f"numbers: {closed}: {ran.status} {said}")
+        again = trial.rerun("numbers.log", folder=folder)
+        trial.check(again.status == 0, f"numbers: {closed}: rerun {again.status}: {again.ours()}")
+
+
 def hang_of_pigz(trial: Trial) -> None:
     """One failing read has pigz 2.6 wait for ever, which its log repeats."""
     version = subprocess.run(["pigz", "--version"], capture_output=True, text=True).stdout if shutil.which("pigz") else ""
@@ -652,4 +668,4 @@ OTHERS: dict[str, Callable[[Trial], None]] = {
     "table": compare_table, "closed": closed_program, "killed": killed, "differing": differing, "statuses": statuses,
     "stuck": stuck, "net": net, "passed": passed, "faults": faults, "seeds": seeds, "children": children, "units": units,
     "sanitizers": sanitizers,
-    "addresses": addresses, "hang": hang_of_pigz, "server": server, "web": web_server}
+    "addresses": addresses, "numbers": closed_numbers, "hang": hang_of_pigz, "server": server, "web": web_server}

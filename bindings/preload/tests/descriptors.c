@@ -136,6 +136,9 @@ static void pairs(void) {
   SAY(FD_ISSET(s[0], &in) != 0);
   SAY(ppoll(fds, 1, &(struct timespec){0, 0}, NULL));
   SAY(pselect(s[0] + 1, &in, NULL, NULL, &(struct timespec){0, 0}, NULL));
+  unsigned long short_set[2] = {1ul << s[0], 7};
+  SAY(select(s[0] + 1, (fd_set *)short_set, NULL, NULL, &(struct timeval){0, 0}));
+  SAY(short_set[1]);
   fds[0].fd = 25;
   SAY(poll(fds, 1, 0));
   SAY(fds[0].revents == POLLNVAL);

@@ -64,6 +64,13 @@ int main(void) {
   SAY(setvbuf(f, NULL, _IONBF, 0));
   SAY(fputs("more\n", f));
   SAY(fclose(f));
+  f = freopen("again.txt", "w+", fopen("written.txt", "r"));
+  SAY(fputs("once more\n", f) >= 0);
+  f = freopen("again.txt", "r", f);
+  SAY(fgets(line, sizeof line, f) != NULL);
+  SAY(ftell(f));
+  SAY(fclose(f));
+  SAY(remove("again.txt"));
   f = freopen("written.txt", "r", stdin);
   SAY(f == stdin);
   SAY(fgets(line, sizeof line, stdin) != NULL);

@@ -13,6 +13,11 @@
 static pthread_mutex_t m = PTHREAD_MUTEX_INITIALIZER;
 static pthread_cond_t c = PTHREAD_COND_INITIALIZER;
 static pthread_rwlock_t rw = PTHREAD_RWLOCK_INITIALIZER;
+static void *writes_once(void *given) {
+  pthread_rwlock_wrlock(&rw);
+  pthread_rwlock_unlock(&rw);
+  return given;
+}
 static pthread_barrier_t barrier;
 static pthread_spinlock_t spin;
 static pthread_once_t once = PTHREAD_ONCE_INIT;
@@ -109,6 +114,14 @@ static void alone(void) {
   TELL(pthread_rwlock_trywrlock(&rw));
   TELL(pthread_rwlock_unlock(&rw));
   TELL(pthread_rwlock_unlock(&rw));
+  pthread_t writer;
+  TELL(pthread_rwlock_rdlock(&rw));
+  pthread_create(&writer, NULL, writes_once, NULL);
+  usleep(2000);
+  TELL(pthread_rwlock_rdlock(&rw)); /* while a writer waits */
+  TELL(pthread_rwlock_unlock(&rw));
+  TELL(pthread_rwlock_unlock(&rw));
+  pthread_join(writer, NULL);
   TELL(pthread_rwlock_trywrlock(&rw));
   TELL(pthread_rwlock_unlock(&rw));
   TELL(pthread_mutex_lock(&m));

@@ -95,6 +95,26 @@ static void reading(void) {
   said("opendir", -1);
 }
 
+/* More names than one answer has, each removed once it is read. */
+static void emptying(void) {
+  char path[128];
+  SAY(mkdir("many", 0700));
+  for (int i = 0; i < 500; i++) {
+    snprintf(path, sizeof path, "many/%060d", i);
+    close(open(path, O_WRONLY | O_CREAT, 0600));
+  }
+  DIR *d = opendir("many");
+  int count = 0;
+  for (struct dirent *it; (it = readdir(d)) != NULL;) {
+    snprintf(path, sizeof path, "many/%.100s", it->d_name);
+    if (dots(it)) count += unlink(path) == 0;
+  }
+  SAY(closedir(d));
+  SAY(count);
+  SAY(rmdir("many"));
+  SAY(realpath("input.txt/", NULL) == NULL);
+}
+
 static void from_a_directory(void) {
   char here[PATH_MAX], *path, *other;
   struct stat s;
@@ -141,6 +161,7 @@ int main(void) {
   making();
   asking();
   reading();
+  emptying();
   from_a_directory();
   chosen_names();
   SAY(rmdir("room"));

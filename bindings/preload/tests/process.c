@@ -9,6 +9,7 @@
 
 static volatile sig_atomic_t handled;
 static void handles(int number) { handled += number; }
+static void writes(int number) { SAY(number == SIGALRM); }
 static pthread_t waiter;
 static int first, second;
 static void *waits(void *given) {
@@ -49,6 +50,9 @@ int main(void) {
   handled -= SIGUSR1;
   SAY(raise(SIGUSR1));
   SAY(handled == 2 * SIGUSR1 + SIGUSR2);
+  signal(SIGALRM, writes);
+  ualarm(20000, 0);
+  SAY(pause());
   SAY(kill(1 << 22, 0));
   SAY(system("exit 3") >> 8);
   fflush(stdout);

@@ -50,6 +50,16 @@ static void *detached(void *given) {
   return NULL;
 }
 
+static void *sleeps_on(void *given) {
+  for (;;) usleep(1000);
+  return given;
+}
+static void *ends_last(void *given) {
+  usleep(2000);
+  SAY(given == NULL);
+  return NULL;
+}
+
 int main(void) {
   pthread_t t;
   pthread_attr_t attr;
@@ -100,5 +110,11 @@ int main(void) {
   SAY(thrd_join(c, &value));
   SAY(value);
   thrd_yield();
-  return 0;
+  pthread_create(&t, NULL, sleeps_on, NULL);
+  usleep(2000);
+  TELL(pthread_cancel(t));
+  TELL(pthread_join(t, &result));
+  SAY(result == PTHREAD_CANCELED);
+  pthread_create(&t, NULL, ends_last, NULL);
+  pthread_exit(NULL);
 }
