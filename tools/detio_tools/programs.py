@@ -366,6 +366,20 @@ def addresses(trial: Trial) -> None:
     trial.check(b"fixed=yes" not in (folder / "other.log").read_bytes(), "addresses: the log says that they are fixed")
 
 
+def in_turn(trial: Trial) -> None:
+    """Effects on the host come in the order of turns: recordings leave the same file, serial or not."""
+    folder = trial.room / "in-turn"
+    make_inputs(folder)
+    for options in (), ("--parallel",):
+        left = set()
+        for _ in range(5):
+            (folder / "appended.txt").unlink(missing_ok=True)
+            run = trial.run("turn.log", str(trial.room / "programs/appends"), folder=folder, options=options)
+            trial.check(run.status == 0, f"in turn: status {run.status}: {run.ours()}")
+            left.add((folder / "appended.txt").read_bytes())
+        trial.check(len(left) == 1, f"in turn: five recordings {' '.join(options)} left {len(left)} files")
+
+
 def closed_numbers(trial: Trial) -> None:
     """Standard numbers that are closed at the start are closed in the run, and the next openings have them."""
     folder = trial.room / "numbers"
@@ -668,4 +682,4 @@ OTHERS: dict[str, Callable[[Trial], None]] = {
     "table": compare_table, "closed": closed_program, "killed": killed, "differing": differing, "statuses": statuses,
     "stuck": stuck, "net": net, "passed": passed, "faults": faults, "seeds": seeds, "children": children, "units": units,
     "sanitizers": sanitizers,
-    "addresses": addresses, "numbers": closed_numbers, "hang": hang_of_pigz, "server": server, "web": web_server}
+    "addresses": addresses, "in-turn": in_turn, "numbers": closed_numbers, "hang": hang_of_pigz, "server": server, "web": web_server}
