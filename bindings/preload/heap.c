@@ -26,6 +26,12 @@ static void reserve(void) {
   }
 }
 
+/* For how many bytes there are addresses. */
+size_t heap_size(void) {
+  if (!next_block) reserve();
+  return (size_t)(end - next_block);
+}
+
 static int power_of(size_t size) {
   int power = LEAST;
   while (((size_t)1 << power) < size) power++;

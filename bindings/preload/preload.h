@@ -220,6 +220,7 @@ void *detio_heap_malloc(size_t);
 void *detio_heap_calloc(size_t, size_t);
 void *detio_heap_realloc(void *, size_t);
 void detio_heap_free(void *);
+size_t heap_size(void);
 extern size_t heap_used, heap_limit; /* bytes in use; and when a line says so */
 
 /* System calls that no library sees: the result, or an error's number below 0. */

@@ -366,6 +366,16 @@ def addresses(trial: Trial) -> None:
     trial.check(b"fixed=yes" not in (folder / "other.log").read_bytes(), "addresses: the log says that they are fixed")
 
 
+def few_addresses(trial: Trial) -> None:
+    """A run needs no more addresses than there are."""
+    folder = trial.room / "few"
+    make_inputs(folder)
+    launcher, program = str(trial.library / "detio-launch"), str(trial.room / "programs/race")
+    for words in f"run --log few.log --force -- {program}", "rerun --log few.log":
+        ran = trial.launch("/bin/sh", "-c", f"ulimit -v 1500000; exec {launcher} {words}", folder=folder)
+        trial.check(ran.status == 0, f"few addresses: {words}: {ran.status} {ran.ours()}")
+
+
 def in_turn(trial: Trial) -> None:
     """Effects on the host come in the order of turns: recordings leave the same file, serial or not."""
     folder = trial.room / "in-turn"
@@ -682,4 +692,4 @@ OTHERS: dict[str, Callable[[Trial], None]] = {
     "table": compare_table, "closed": closed_program, "killed": killed, "differing": differing, "statuses": statuses,
     "stuck": stuck, "net": net, "passed": passed, "faults": faults, "seeds": seeds, "children": children, "units": units,
     "sanitizers": sanitizers,
-    "addresses": addresses, "in-turn": in_turn, "numbers": closed_numbers, "hang": hang_of_pigz, "server": server, "web": web_server}
+    "addresses": addresses, "few": few_addresses, "in-turn": in_turn, "numbers": closed_numbers, "hang": hang_of_pigz, "server": server, "web": web_server}
