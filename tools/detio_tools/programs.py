@@ -689,7 +689,7 @@ def compare_table(trial: Trial) -> None:
 
 
 OTHERS: dict[str, Callable[[Trial], None]] = {
-    "table": compare_table, "closed": closed_program, "killed": killed, "differing": differing, "statuses": statuses,
-    "stuck": stuck, "net": net, "passed": passed, "faults": faults, "seeds": seeds, "children": children, "units": units,
-    "sanitizers": sanitizers,
-    "addresses": addresses, "few": few_addresses, "in-turn": in_turn, "numbers": closed_numbers, "hang": hang_of_pigz, "server": server, "web": web_server}
+    "table": compare_table, "closed": closed_program, "killed": killed, "differing": differing, "statuses":
+    statuses, "stuck": stuck, "net": net, "passed": passed, "faults": faults, "seeds": seeds, "children": children,
+    "units": units, "sanitizers": sanitizers, "addresses": addresses, "few": few_addresses, "in-turn": in_turn,
+    "numbers": closed_numbers, "hang": hang_of_pigz, "server": server, "web": web_server}
