@@ -16,9 +16,12 @@ use Rattle.posix_terms.specs.declared.errno.Errno.TheVariants as errno
 use Rattle.posix_terms.specs.declared.reply.ObjectKind.{ObjectKind}
 use Rattle.posix_terms.specs.declared.reply.ObjectKind.TheVariants as kind
 use Rattle.thread_scripts.specs.Numbers.{is_digit, number_of}
-use Rattle.expectations.specs.Laws.{HasValues, IsByte, IsSigned, IsSize, NamesLeadBack, NumbersLeadBack}
-use Rattle.expectations.specs.Printing.{data_word, operand_word, wanted_text, wanted_words}
-use Rattle.expectations.specs.Words.{data_of, error_of, kind_of, operand, size_of, wanted_by, wanted_of}
+use Rattle.expectations.specs.Laws.{HasOperands, HasValues, IsByte, IsSigned, IsSize, NamesLeadBack, NumbersLeadBack}
+use Rattle.expectations.specs.Printing.{data_word, excluded_words, operand_word, pattern_words, wanted_text}
+use Rattle.expectations.specs.Printing.{wanted_words}
+use Rattle.expectations.specs.Words.{data_of, error_of, kind_of, operand, pattern_by, size_of, wanted_of}
+use Rattle.expectations.specs.declared.pattern.Pattern.{Pattern}
+use Rattle.expectations.specs.declared.pattern.Pattern.TheVariants as pattern
 use Rattle.expectations.specs.declared.wanted.Wanted.{Wanted}
 use Rattle.expectations.specs.declared.wanted.Wanted.TheVariants as want
 use Rattle.expectations.proofs.HexDigits.{decode_back, hex_back, is_plain}
@@ -224,37 +227,93 @@ name_back names error = operand_back error_of name_of error (at error) where
   at None = tt
   at (Some error) = name_read names error
 
-pub read_back : NamesLeadBack → NumbersLeadBack → (wanted : Wanted) → HasValues wanted
-    → wanted_of (pieces_of 32 (wanted_text wanted)) ≡ Some wanted
-unfolding wanted_words wanted_by
-read_back names numbers (want.Count n) values =
+-- the words of a pattern are words, and the first names its kind
+record IsPatternBack (words : List (List ℕ)) (pattern : Pattern) : Type 0 where
+  all : AllByRecursion IsWord words
+  value : wanted_of words ≡ Some (want.Match pattern)
+  excluded : wanted_of (codes "not" ∷ words) ≡ Some (want.Not pattern)
+
+pattern_back : NamesLeadBack → NumbersLeadBack → (pattern : Pattern) → HasOperands pattern
+    → IsPatternBack (pattern_words pattern) pattern
+unfolding pattern_words pattern_by
+pattern_back names numbers (pattern.Count n) values =
     let one = size_word n values in
-    ap wanted_of (pieces_joined (codes "count" ∷ operand_word decimal n ∷ [])
-    (word_ok (codes "count") refl (lit< tt), (one.word, tt))) ∙ rw one.value refl
-read_back names numbers (want.Data bytes) values =
+    record {
+      all = (word_ok (codes "count") refl (lit< tt), (one.word, tt));
+      value = rw one.value refl;
+      excluded = rw one.value refl;
+    }
+pattern_back names numbers (pattern.Data bytes) values =
     let one = data_back bytes values in
-    ap wanted_of (pieces_joined (codes "data" ∷ operand_word data_word bytes ∷ [])
-    (word_ok (codes "data") refl (lit< tt), (one.word, tt))) ∙ rw one.value refl
-read_back names numbers (want.Number n) values =
+    record {
+      all = (word_ok (codes "data") refl (lit< tt), (one.word, tt));
+      value = rw one.value refl;
+      excluded = rw one.value refl;
+    }
+pattern_back names numbers (pattern.Number n) values =
     let one = signed_word n values in
-    ap wanted_of (pieces_joined (codes "number" ∷ operand_word signed_decimal n ∷ [])
-    (word_ok (codes "number") refl (lit< tt), (one.word, tt))) ∙ rw one.value refl
-read_back names numbers (want.Pair first second) values =
+    record {
+      all = (word_ok (codes "number") refl (lit< tt), (one.word, tt));
+      value = rw one.value refl;
+      excluded = rw one.value refl;
+    }
+pattern_back names numbers (pattern.Pair first second) values =
     let one = signed_word first values.0 in
     let two = signed_word second values.1 in
-    ap wanted_of (pieces_joined (codes "pair" ∷ operand_word signed_decimal first ∷ operand_word signed_decimal second
-    ∷ []) (word_ok (codes "pair") refl (lit< tt), (one.word, (two.word, tt)))) ∙ rw (one.value, two.value) refl
-read_back names numbers (want.Stat kind number links) values =
+    record {
+      all = (word_ok (codes "pair") refl (lit< tt), (one.word, (two.word, tt)));
+      value = rw (one.value, two.value) refl;
+      excluded = rw (one.value, two.value) refl;
+    }
+pattern_back names numbers (pattern.Stat kind number links) values =
     let one = kind_back numbers kind in
     let two = size_word number values.0 in
     let three = size_word links values.1 in
-    ap wanted_of (pieces_joined (codes "stat" ∷ operand_word (λ kind. decimal (kind_code kind)) kind
-    ∷ operand_word decimal number ∷ operand_word decimal links ∷ [])
-    (word_ok (codes "stat") refl (lit< tt), (one.word, (two.word, (three.word, tt)))))
-    ∙ rw (one.value, two.value, three.value) refl
-read_back names numbers want.Done values = refl
-read_back names numbers (want.Fail error) values =
+    record {
+      all = (word_ok (codes "stat") refl (lit< tt), (one.word, (two.word, (three.word, tt))));
+      value = rw (one.value, two.value, three.value) refl;
+      excluded = rw (one.value, two.value, three.value) refl;
+    }
+pattern_back names numbers pattern.Done values = record {
+  all = (word_ok (codes "done") refl (lit< tt), tt);
+  value = refl;
+  excluded = refl;
+}
+pattern_back names numbers (pattern.Fail error) values =
     let one = name_back names error in
-    ap wanted_of (pieces_joined (codes "fail" ∷ operand_word name_of error ∷ [])
-    (word_ok (codes "fail") refl (lit< tt), (one.word, tt))) ∙ rw one.value refl
-read_back names numbers want.NotFail values = refl
+    record {
+      all = (word_ok (codes "fail") refl (lit< tt), (one.word, tt));
+      value = rw one.value refl;
+      excluded = rw one.value refl;
+    }
+
+read_words : (words : List (List ℕ)) (wanted : Wanted) → AllByRecursion IsWord words → wanted_of words ≡ Some wanted
+    → wanted_of (pieces_of 32 (join_with_byte 32 words)) ≡ Some wanted
+read_words words wanted all value = ap wanted_of (pieces_joined words all) ∙ value
+
+-- the words of another pattern than any failure, after `not`
+read_not : (words : List (List ℕ)) (pattern : Pattern) → IsPatternBack words pattern
+    → wanted_of (pieces_of 32 (join_with_byte 32 (codes "not" ∷ words))) ≡ Some (want.Not pattern)
+read_not words pattern back =
+    read_words (codes "not" ∷ words) (want.Not pattern) (word_ok (codes "not") refl (lit< tt), back.all) back.excluded
+
+pub read_back : NamesLeadBack → NumbersLeadBack → (wanted : Wanted) → HasValues wanted
+    → wanted_of (pieces_of 32 (wanted_text wanted)) ≡ Some wanted
+unfolding wanted_words excluded_words
+read_back names numbers (want.Match pattern) values =
+    let back = pattern_back names numbers pattern values in
+    read_words (pattern_words pattern) (want.Match pattern) back.all back.value
+read_back names numbers (want.Not (pattern.Fail None)) values = refl
+read_back names numbers (want.Not (pattern.Fail (Some error))) values =
+    read_not _ _ (pattern_back names numbers (pattern.Fail (Some error)) values)
+read_back names numbers (want.Not (pattern.Count n)) values =
+    read_not _ _ (pattern_back names numbers (pattern.Count n) values)
+read_back names numbers (want.Not (pattern.Data bytes)) values =
+    read_not _ _ (pattern_back names numbers (pattern.Data bytes) values)
+read_back names numbers (want.Not (pattern.Number n)) values =
+    read_not _ _ (pattern_back names numbers (pattern.Number n) values)
+read_back names numbers (want.Not (pattern.Pair first second)) values =
+    read_not _ _ (pattern_back names numbers (pattern.Pair first second) values)
+read_back names numbers (want.Not (pattern.Stat kind number links)) values =
+    read_not _ _ (pattern_back names numbers (pattern.Stat kind number links) values)
+read_back names numbers (want.Not pattern.Done) values = read_not _ _ (pattern_back names numbers pattern.Done values)

@@ -21,6 +21,8 @@ use Rattle.expectations.specs.Unmet.{AreMet, IsFirstUnmet}
 use Rattle.expectations.specs.Words.{error_of, kind_numbered, wanted_of}
 use Rattle.expectations.specs.declared.expected.Expectation.{Expectation}
 use Rattle.expectations.specs.declared.fault.Reason.{Reason}
+use Rattle.expectations.specs.declared.pattern.Pattern.{Pattern}
+use Rattle.expectations.specs.declared.pattern.Pattern.TheVariants as pattern
 use Rattle.expectations.specs.declared.unmet.Unmet.{Unmet}
 use Rattle.expectations.specs.declared.wanted.Wanted.{Wanted}
 use Rattle.expectations.specs.declared.wanted.Wanted.TheVariants as want
@@ -75,13 +77,18 @@ abbrev pub IsByte : ℕ → Type 0
 IsByte b = b < 256
 
 -- the operands are values of their types
+abbrev pub HasOperands : Pattern → Type 0
+HasOperands (pattern.Count n) = IfSome n IsSize
+HasOperands (pattern.Data bytes) = IfSome bytes (All IsByte)
+HasOperands (pattern.Number n) = IfSome n IsSigned
+HasOperands (pattern.Pair first second) = IfSome first IsSigned × IfSome second IsSigned
+HasOperands (pattern.Stat kind number links) = IfSome number IsSize × IfSome links IsSize
+HasOperands _ = Unit {0}
+
+-- and so are those of its pattern
 abbrev pub HasValues : Wanted → Type 0
-HasValues (want.Count n) = IfSome n IsSize
-HasValues (want.Data bytes) = IfSome bytes (All IsByte)
-HasValues (want.Number n) = IfSome n IsSigned
-HasValues (want.Pair first second) = IfSome first IsSigned × IfSome second IsSigned
-HasValues (want.Stat kind number links) = IfSome number IsSize × IfSome links IsSize
-HasValues _ = Unit {0}
+HasValues (want.Match pattern) = HasOperands pattern
+HasValues (want.Not pattern) = HasOperands pattern
 
 -- what is written is read back
 abbrev pub TextsReadBack : Type 0

@@ -7,6 +7,8 @@ use Rattle.std.specs.List.{join_with_byte}
 use Rattle.hex.specs.Hex.{encode_lower}
 use Rattle.posix_terms.specs.Errors.{name_of}
 use Rattle.posix_terms.specs.Replies.{kind_code}
+use Rattle.expectations.specs.declared.pattern.Pattern.{Pattern}
+use Rattle.expectations.specs.declared.pattern.Pattern.TheVariants as pattern
 use Rattle.expectations.specs.declared.wanted.Wanted.{Wanted}
 use Rattle.expectations.specs.declared.wanted.Wanted.TheVariants as want
 
@@ -19,19 +21,32 @@ operand_word word (Some operand) = word operand
 abbrev pub data_word : List ℕ → List ℕ
 data_word bytes = if length bytes == 0 then codes "-" else encode_lower bytes
 
--- the words that stand for what is expected of a reply
-unfoldable pub wanted_words : Wanted → List (List ℕ)
-wanted_words (want.Count n) = codes "count" ∷ operand_word decimal n ∷ []
-wanted_words (want.Data bytes) = codes "data" ∷ operand_word data_word bytes ∷ []
-wanted_words (want.Number n) = codes "number" ∷ operand_word signed_decimal n ∷ []
-wanted_words (want.Pair first second) =
+-- the words of a pattern
+unfoldable pub pattern_words : Pattern → List (List ℕ)
+pattern_words (pattern.Count n) = codes "count" ∷ operand_word decimal n ∷ []
+pattern_words (pattern.Data bytes) = codes "data" ∷ operand_word data_word bytes ∷ []
+pattern_words (pattern.Number n) = codes "number" ∷ operand_word signed_decimal n ∷ []
+pattern_words (pattern.Pair first second) =
     codes "pair" ∷ operand_word signed_decimal first ∷ operand_word signed_decimal second ∷ []
-wanted_words (want.Stat kind number links) =
+pattern_words (pattern.Stat kind number links) =
     codes "stat" ∷ operand_word (λ kind. decimal (kind_code kind)) kind
     ∷ operand_word decimal number ∷ operand_word decimal links ∷ []
-wanted_words want.Done = codes "done" ∷ []
-wanted_words (want.Fail error) = codes "fail" ∷ operand_word name_of error ∷ []
-wanted_words want.NotFail = codes "not" ∷ codes "fail" ∷ []
+pattern_words pattern.Done = codes "done" ∷ []
+pattern_words (pattern.Fail error) = codes "fail" ∷ operand_word name_of error ∷ []
+
+-- the words of a pattern after `not`: any failure is `fail` alone
+unfoldable pub excluded_words : Pattern → List (List ℕ)
+excluded_words (pattern.Fail None) = codes "fail" ∷ []
+excluded_words other = pattern_words other
+
+-- the words that stand for what is expected of a reply
+unfoldable pub wanted_words : Wanted → List (List ℕ)
+wanted_words (want.Match pattern) = pattern_words pattern
+wanted_words (want.Not pattern) = codes "not" ∷ excluded_words pattern
+
+-- a pattern in its words, one space apart
+abbrev pub pattern_text : Pattern → List ℕ
+pattern_text pattern = join_with_byte 32 (pattern_words pattern)
 
 -- what is expected of a reply, in its words, one space apart
 abbrev pub wanted_text : Wanted → List ℕ

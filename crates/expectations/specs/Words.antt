@@ -12,6 +12,8 @@ use Rattle.posix_terms.specs.declared.reply.ObjectKind.{ObjectKind}
 use Rattle.posix_terms.specs.declared.reply.ObjectKind.TheVariants as kind
 use Rattle.thread_scripts.specs.Calls.{◌>>=◌}
 use Rattle.thread_scripts.specs.Numbers.{natural_of, number_of, up_to}
+use Rattle.expectations.specs.declared.pattern.Pattern.{Pattern}
+use Rattle.expectations.specs.declared.pattern.Pattern.TheVariants as pattern
 use Rattle.expectations.specs.declared.wanted.Wanted.{Wanted}
 use Rattle.expectations.specs.declared.wanted.Wanted.TheVariants as want
 
@@ -56,69 +58,74 @@ error_among errors word = find (λ error. bytes_eq word (name_of error)) errors
 abbrev pub error_of : List ℕ → Option Errno
 error_of word = error_among errors word
 
--- ## What is wanted, by the operands of its word
+-- ## A pattern, by the operands of its word
 
 -- count N
-abbrev pub count_wanted : List (List ℕ) → Option Wanted
-count_wanted (n ∷ []) = option_map want.Count (operand size_of n)
-count_wanted _ = None
+abbrev pub count_pattern : List (List ℕ) → Option Pattern
+count_pattern (n ∷ []) = option_map pattern.Count (operand size_of n)
+count_pattern _ = None
 
 -- data HEX
-abbrev pub data_wanted : List (List ℕ) → Option Wanted
-data_wanted (bytes ∷ []) = option_map want.Data (operand data_of bytes)
-data_wanted _ = None
+abbrev pub data_pattern : List (List ℕ) → Option Pattern
+data_pattern (bytes ∷ []) = option_map pattern.Data (operand data_of bytes)
+data_pattern _ = None
 
 -- number N
-abbrev pub number_wanted : List (List ℕ) → Option Wanted
-number_wanted (n ∷ []) = option_map want.Number (operand number_of n)
-number_wanted _ = None
+abbrev pub number_pattern : List (List ℕ) → Option Pattern
+number_pattern (n ∷ []) = option_map pattern.Number (operand number_of n)
+number_pattern _ = None
 
 -- pair N N
-abbrev pub pair_wanted : List (List ℕ) → Option Wanted
-pair_wanted (a ∷ b ∷ []) = do
+abbrev pub pair_pattern : List (List ℕ) → Option Pattern
+pair_pattern (a ∷ b ∷ []) = do
   first ← operand number_of a
   second ← operand number_of b
-  Some (want.Pair first second)
-pair_wanted _ = None
+  Some (pattern.Pair first second)
+pair_pattern _ = None
 
 -- stat KIND N N
-abbrev pub stat_wanted : List (List ℕ) → Option Wanted
-stat_wanted (k ∷ n ∷ l ∷ []) = do
+abbrev pub stat_pattern : List (List ℕ) → Option Pattern
+stat_pattern (k ∷ n ∷ l ∷ []) = do
   kind ← operand kind_of k
   number ← operand size_of n
   links ← operand size_of l
-  Some (want.Stat kind number links)
-stat_wanted _ = None
+  Some (pattern.Stat kind number links)
+stat_pattern _ = None
 
 -- done
-abbrev pub done_wanted : List (List ℕ) → Option Wanted
-done_wanted [] = Some want.Done
-done_wanted _ = None
+abbrev pub done_pattern : List (List ℕ) → Option Pattern
+done_pattern [] = Some pattern.Done
+done_pattern _ = None
 
 -- fail NAME
-abbrev pub fail_wanted : List (List ℕ) → Option Wanted
-fail_wanted (name ∷ []) = option_map want.Fail (operand error_of name)
-fail_wanted _ = None
+abbrev pub fail_pattern : List (List ℕ) → Option Pattern
+fail_pattern (name ∷ []) = option_map pattern.Fail (operand error_of name)
+fail_pattern _ = None
 
--- not fail
-abbrev pub not_fail_wanted : List (List ℕ) → Option Wanted
-not_fail_wanted (word ∷ []) = if bytes_eq word (codes "fail") then Some want.NotFail else None
-not_fail_wanted _ = None
-
--- what is wanted by this word with these operands
-unfoldable pub wanted_by : List ℕ → List (List ℕ) → Option Wanted
-wanted_by word operands =
-    if bytes_eq word (codes "count") then count_wanted operands
-    else if bytes_eq word (codes "data") then data_wanted operands
-    else if bytes_eq word (codes "number") then number_wanted operands
-    else if bytes_eq word (codes "pair") then pair_wanted operands
-    else if bytes_eq word (codes "stat") then stat_wanted operands
-    else if bytes_eq word (codes "done") then done_wanted operands
-    else if bytes_eq word (codes "fail") then fail_wanted operands
-    else if bytes_eq word (codes "not") then not_fail_wanted operands
+-- the pattern of this word with these operands
+unfoldable pub pattern_by : List ℕ → List (List ℕ) → Option Pattern
+pattern_by word operands =
+    if bytes_eq word (codes "count") then count_pattern operands
+    else if bytes_eq word (codes "data") then data_pattern operands
+    else if bytes_eq word (codes "number") then number_pattern operands
+    else if bytes_eq word (codes "pair") then pair_pattern operands
+    else if bytes_eq word (codes "stat") then stat_pattern operands
+    else if bytes_eq word (codes "done") then done_pattern operands
+    else if bytes_eq word (codes "fail") then fail_pattern operands
     else None
+
+-- ## What is wanted
+
+-- the pattern of these words after `not`: there `fail` alone is any failure
+abbrev pub excluded_of : List (List ℕ) → Option Pattern
+excluded_of [] = None
+excluded_of (word ∷ []) =
+    if bytes_eq word (codes "fail") then Some (pattern.Fail None) else pattern_by word []
+excluded_of (word ∷ operands) = pattern_by word operands
 
 -- what these words want
 abbrev pub wanted_of : List (List ℕ) → Option Wanted
 wanted_of [] = None
-wanted_of (word ∷ operands) = wanted_by word operands
+wanted_of (word ∷ words) =
+    if bytes_eq word (codes "not") then option_map want.Not (excluded_of words)
+    else option_map want.Match (pattern_by word words)

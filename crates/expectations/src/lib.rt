@@ -3,8 +3,9 @@
 //!
 //! A line of a script's text that begins with `#=` is a comment of the script language. Here it
 //! stands for the reply of the call line above it, in the words that a transcript has for replies:
-//! `#= count 5`, `#= data 6869`, `#= pair 3 _`, `#= fail ENOENT`, `#= not fail`. `_` stands for any
-//! operand. The call line is the nearest line above that is neither empty nor a comment. Several
+//! `#= count 5`, `#= data 6869`, `#= pair 3 _`, `#= fail ENOENT`. `_` stands for any operand. After
+//! `not` these words stand for every other reply: `#= not stat 1 1 1`, and `#= not fail` for every
+//! reply but a failure. The call line is the nearest line above that is neither empty nor a comment. Several
 //! such lines may follow one call line, and its reply has to meet them all, each time that the
 //! line is executed.
 //!
@@ -47,6 +48,7 @@ mod fault;
 mod following;
 mod laws;
 mod operands;
+mod pattern;
 mod places;
 mod printing;
 mod reading;
@@ -62,6 +64,7 @@ pub use laws::{
     texts_read_back,
 };
 pub use operands::{bytes_of, error_named};
+pub use pattern::Pattern;
 pub use places::{call_places, next_call_place};
 pub use unmet::{Unmet, first_unmet};
 pub use wanted::Wanted;

@@ -2,8 +2,9 @@ ghost use Rattle.std.specs.Prelude.{◌≡◌, IfOk, codes, decimal, string_byte
 ghost use Rattle.std.specs.Fmt.{signed_decimal};
 ghost use Rattle.posix_terms.specs.Errors.{name_of};
 ghost use Rattle.posix_terms.specs.Replies.{kind_code};
-ghost use Rattle.expectations.specs.Printing.{data_word, operand_word, wanted_text};
+ghost use Rattle.expectations.specs.Printing.{data_word, operand_word, pattern_text, wanted_text};
 
+use crate::pattern::Pattern;
 use crate::wanted::Wanted;
 use posix_terms::{Bytes, Errno, ObjectKind, errno_name};
 use std::alloc::{AllocError, Global};
@@ -60,31 +61,31 @@ fn error_word(alloc: Global, error: Option<Errno>) -> Result<String, AllocError>
     }
 }
 
-impl Wanted {
-    /// The words of an expectation that wants this: `_` stands for an operand that may be any.
-    #[tactic(auto, unfolding(crate::specs::Printing::wanted_words))]
-    pub fn text(&self, alloc: Global) -> Result<String, AllocError>
-        ensures { IfOk result (λ text. string_bytes text ≡ wanted_text self.now) }
+impl Pattern {
+    // The words of this pattern: `_` stands for an operand that may be any.
+    #[tactic(auto, unfolding(crate::specs::Printing::pattern_words))]
+    fn text(&self, alloc: Global) -> Result<String, AllocError>
+        ensures { IfOk result (λ text. string_bytes text ≡ pattern_text self.now) }
     {
         match self {
-            Wanted::Count(count) => {
+            Pattern::Count(count) => {
                 let count = size_word(alloc, *count)?;
                 format!(in alloc; "count {count}")
             }
-            Wanted::Data(bytes) => {
+            Pattern::Data(bytes) => {
                 let bytes = data_word(alloc, bytes)?;
                 format!(in alloc; "data {bytes}")
             }
-            Wanted::Number(number) => {
+            Pattern::Number(number) => {
                 let number = signed_word(alloc, *number)?;
                 format!(in alloc; "number {number}")
             }
-            Wanted::Pair(first, second) => {
+            Pattern::Pair(first, second) => {
                 let first = signed_word(alloc, *first)?;
                 let second = signed_word(alloc, *second)?;
                 format!(in alloc; "pair {first} {second}")
             }
-            Wanted::Stat {
+            Pattern::Stat {
                 kind,
                 number,
                 links,
@@ -94,12 +95,28 @@ impl Wanted {
                 let links = size_word(alloc, *links)?;
                 format!(in alloc; "stat {kind} {number} {links}")
             }
-            Wanted::Done => String::from_str(alloc, "done"),
-            Wanted::Fail(error) => {
+            Pattern::Done => String::from_str(alloc, "done"),
+            Pattern::Fail(error) => {
                 let error = error_word(alloc, *error)?;
                 format!(in alloc; "fail {error}")
             }
-            Wanted::NotFail => String::from_str(alloc, "not fail"),
+        }
+    }
+}
+
+impl Wanted {
+    /// The words of an expectation that wants this: `_` stands for an operand that may be any.
+    #[tactic(auto, unfolding(crate::specs::Printing::wanted_words, crate::specs::Printing::excluded_words, crate::specs::Printing::pattern_words))]
+    pub fn text(&self, alloc: Global) -> Result<String, AllocError>
+        ensures { IfOk result (λ text. string_bytes text ≡ wanted_text self.now) }
+    {
+        match self {
+            Wanted::Match(pattern) => pattern.text(alloc),
+            Wanted::Not(Pattern::Fail(None)) => String::from_str(alloc, "not fail"),
+            Wanted::Not(pattern) => {
+                let excluded = pattern.text(alloc)?;
+                format!(in alloc; "not {excluded}")
+            }
         }
     }
 }

@@ -1,25 +1,14 @@
-ghost use Rattle.std.specs.Prelude.{◌≡◌, ◌↔◌, IsTrue};
-ghost use Rattle.expectations.specs.Meeting.{IsOperand, Meets};
+ghost use Rattle.std.specs.Prelude.{◌↔◌, IsTrue};
+ghost use Rattle.expectations.specs.Meeting.{Meets};
 
-use posix_terms::{Bytes, Errno, ObjectKind, Reply};
+use crate::pattern::Pattern;
+use posix_terms::Reply;
 
-/// Which replies are wanted: those of a kind, with the operands that are given. An operand that is
-/// not given may be any.
+/// Which replies are wanted: those that match a pattern, or all others.
 #[derive(Debug, PartialEq, Eq, Drop)]
 pub enum Wanted {
-    Count(Option<u64>),
-    Data(Option<Bytes>),
-    Number(Option<i64>),
-    Pair(Option<i64>, Option<i64>),
-    Stat {
-        kind: Option<ObjectKind>,
-        number: Option<u64>,
-        links: Option<u64>,
-    },
-    Done,
-    Fail(Option<Errno>),
-    /// Every reply but a failure.
-    NotFail,
+    Match(Pattern),
+    Not(Pattern),
 }
 
 impl Wanted {
@@ -27,81 +16,9 @@ impl Wanted {
     pub fn is_met_by(&self, reply: &Reply) -> bool
         ensures { IsTrue result ↔ Meets self.now reply.now }
     {
-        match (self, reply) {
-            (Wanted::Count(wanted), Reply::Count(given)) => is_size(*wanted, *given),
-            (Wanted::Data(wanted), Reply::Data(given)) => is_data(wanted, given),
-            (Wanted::Number(wanted), Reply::Number(given)) => is_number(*wanted, *given),
-            (Wanted::Pair(wanted_first, wanted_second), Reply::Pair(first, second)) => {
-                is_number(*wanted_first, *first) && is_number(*wanted_second, *second)
-            }
-            (
-                Wanted::Stat {
-                    kind: wanted_kind,
-                    number: wanted_number,
-                    links: wanted_links,
-                },
-                Reply::Stat {
-                    kind,
-                    number,
-                    links,
-                },
-            ) => {
-                is_kind(*wanted_kind, *kind)
-                    && is_size(*wanted_number, *number)
-                    && is_size(*wanted_links, *links)
-            }
-            (Wanted::Done, Reply::Done) => true,
-            (Wanted::Fail(wanted), Reply::Fail(given)) => is_error(*wanted, *given),
-            (Wanted::NotFail, Reply::Fail(_)) => false,
-            (Wanted::NotFail, _) => true,
-            _ => false,
+        match self {
+            Wanted::Match(pattern) => pattern.matches(reply),
+            Wanted::Not(pattern) => !pattern.matches(reply),
         }
-    }
-}
-
-// Whether an operand is the wanted one, by its type.
-
-fn is_size(wanted: Option<u64>, given: u64) -> bool
-    ensures { IsTrue result ↔ IsOperand wanted given }
-{
-    match wanted {
-        Some(wanted) => given == wanted,
-        None => true,
-    }
-}
-
-fn is_number(wanted: Option<i64>, given: i64) -> bool
-    ensures { IsTrue result ↔ IsOperand wanted given }
-{
-    match wanted {
-        Some(wanted) => given == wanted,
-        None => true,
-    }
-}
-
-fn is_data(wanted: &Option<Bytes>, given: &Bytes) -> bool
-    ensures { IsTrue result ↔ IsOperand wanted.now given.now }
-{
-    match wanted {
-        Some(wanted) => given == wanted,
-        None => true,
-    }
-}
-
-fn is_kind(wanted: Option<ObjectKind>, given: ObjectKind) -> bool
-    ensures { IsTrue result ↔ IsOperand wanted given }
-{
-    match wanted {
-        Some(wanted) => given == wanted,
-        None => true,
-    }
-}
-
-fn is_error(wanted: Option<Errno>, given: Errno) -> bool
-    ensures { IsTrue result ↔ IsOperand wanted given }
-{
-    match wanted {
-        Some(wanted) => given == wanted,
-        None => true,
     }
 }

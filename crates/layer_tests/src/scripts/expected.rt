@@ -17,6 +17,13 @@ const WORDS: &[&str] = &[
     "fail ETIMEDOUT",
     "fail _",
     "not fail",
+    "not fail EIO",
+    "not count 3",
+    "not data _",
+    "not number -1",
+    "not pair 3 _",
+    "not stat 1 1 1",
+    "not done",
 ];
 
 /// Texts whose first bad expectation is on line 2, and why.
@@ -29,7 +36,10 @@ const BAD: &[(&[u8], Reason)] = &[
     (b"close 0\n#= pair 1", Reason::Words),
     (b"close 0\n#= stat 7 1 1", Reason::Words),
     (b"close 0\n#= fail ENONE", Reason::Words),
-    (b"close 0\n#= not done", Reason::Words),
+    (b"close 0\n#= not", Reason::Words),
+    (b"close 0\n#= not not done", Reason::Words),
+    (b"close 0\n#= not fail EIO 1", Reason::Words),
+    (b"close 0\n#= fail", Reason::Words),
     (b"# close 0\n#= done", Reason::NothingAbove),
     (b"end\n#= done", Reason::NotACall),
 ];
