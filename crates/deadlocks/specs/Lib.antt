@@ -1,0 +1,2 @@
+pub mod Blocked
+pub mod Places
