@@ -3,3 +3,4 @@ pub mod Lines
 pub mod Ways
 pub mod Seen
 pub mod Steps
+pub mod Blocked

@@ -51,7 +51,7 @@ pub fn answered_calls<'a>(
 }
 
 // The text of a thread's script; it is empty where the thread has none.
-fn text_of(texts: &[Bytes], thread: usize) -> &[u8]
+pub(crate) fn text_of(texts: &[Bytes], thread: usize) -> &[u8]
     ensures { result.now ≡ slice_index_or texts.now thread [] }
 {
     match texts.get(thread) {

@@ -2,6 +2,7 @@
 -- The pictures of one run, and of two.
 use Rattle.std.specs.Prelude.{◌≡◌, ℕ, Bool, true, false, List, [], ◌∷◌, length, map}
 use Rattle.std.specs.Prelude.{Option, Some, None}
+use Rattle.answered_calls.specs.Blocked.{lines_blocked}
 use Rattle.answered_calls.specs.Answered.{answered_calls}
 use Rattle.answered_calls.specs.Seen.{seen}
 use Rattle.comparator.specs.Comparison.{IsVerdictBy}
@@ -44,6 +45,7 @@ IsDrawn texts name run drawn =
     × (map seen (calls_of drawn.calls.items)
     ≡ answered_calls 0 texts run.history run.transcripts)
     × (drawn.stop ≡ run.stop)
+    × (drawn.blocked.items ≡ lines_blocked texts run.transcripts run.history)
 
 -- what is drawn of one run
 abbrev pub OneDraws : DrawOptions → List ℕ → List (List ℕ) → List ℕ → Run → Drawn → Type 0

@@ -4,7 +4,7 @@ ghost use Rattle.draw_commands.specs.Pictures.{ArePictures, IsDrawn, IsPageIf, I
 ghost use Rattle.draw_commands.specs.Pictures.{OneDraws, TwoRunsDraw, place_of};
 
 use crate::clocks::{NotedClocks, drawn_calls};
-use answered_calls::answered_calls;
+use answered_calls::{answered_calls, lines_blocked};
 use command_texts::Printed;
 use commands::Run;
 use comparator::{Verdict, compare_by};
@@ -93,6 +93,7 @@ fn drawn_run<'a>(
         threads: run.transcripts.threads().len(),
         calls: drawn_calls(alloc, &answered, named.clocks)?,
         stop: run.stop,
+        blocked: lines_blocked(alloc, texts, &run.transcripts, rows)?,
     })
 }
 

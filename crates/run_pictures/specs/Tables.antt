@@ -5,6 +5,7 @@ use Rattle.std.specs.Fmt.{decimal}
 use Rattle.std.specs.List.{flat_map}
 use Rattle.answered_calls.specs.declared.answered.AnsweredCall.{AnsweredCall}
 use Rattle.command_texts.specs.Transcripts.{◌+++◌, end_words}
+use Rattle.run_views.specs.Waits.{waits_text}
 use Rattle.run_pictures.specs.Escaped.{asked_escaped, escaped, reply_escaped}
 use Rattle.run_pictures.specs.Kinds.{class_text}
 use Rattle.run_pictures.specs.declared.drawn.DrawnRun.{DrawnRun}
@@ -39,11 +40,13 @@ row_text differs run c =
     +++ asked_escaped c.row.now.call +++ fixed.CELL.now +++ reply_escaped c.row.now.reply
     +++ fixed.ROW_END.now
 
--- the table of a run: its name, how it ended, and a line for each call, in their order
+-- the table of a run: its name, how it ended, which calls were blocked for good, and a line for
+-- each call, in their order
 unfoldable pub table_text : Option (ℕ × ℕ) → ℕ → DrawnRun → List ℕ
 table_text differs number run =
     fixed.TABLE_FRONT.now +++ escaped run.name.now
-    +++ fixed.TABLE_STOP.now +++ end_words run.stop +++ fixed.TABLE_HEAD.now
+    +++ fixed.TABLE_STOP.now +++ end_words run.stop +++ waits_text run.blocked.items
+    +++ fixed.TABLE_HEAD.now
     +++ flat_map (λ c. row_text differs number c.call) run.calls.items
     +++ fixed.TABLE_END.now
 

@@ -1,4 +1,4 @@
-use answered_calls::AnsweredCall;
+use answered_calls::{AnsweredCall, BlockedLine};
 use call_machine::Stop;
 
 /// A run that is drawn.
@@ -12,6 +12,8 @@ pub struct DrawnRun<'a> {
     pub calls: Vec<DrawnCall<'a>>,
     /// What stopped it, where it did not come to its end.
     pub stop: Option<Stop>,
+    /// Where its calls stand that were blocked for good.
+    pub blocked: Vec<BlockedLine>,
 }
 
 /// A call that is drawn.

@@ -22,6 +22,7 @@
 //!         threads: 2,
 //!         calls,
 //!         stop: None,
+//!         blocked: Vec::new(alloc),
 //!     };
 //!     let runs = [run];
 //!     page(alloc, b"0.script 1.script", &runs, None)

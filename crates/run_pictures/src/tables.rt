@@ -12,6 +12,7 @@ use crate::fixed::{
 use crate::kinds::push_class;
 use answered_calls::AnsweredCall;
 use command_texts::{push_end, push_number, push_word};
+use run_views::push_waits;
 use std::alloc::{AllocError, Global};
 
 /// Adds a table for each run.
@@ -46,6 +47,7 @@ fn push_table(
     push_escaped(text, run.name)?;
     push_word(text, TABLE_STOP)?;
     push_end(text, run.stop)?;
+    push_waits(text, &run.blocked)?;
     push_word(text, TABLE_HEAD)?;
     push_rows(alloc, text, differs, number, &run.calls)?;
     push_word(text, TABLE_END)

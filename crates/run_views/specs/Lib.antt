@@ -3,3 +3,4 @@ pub mod Lanes
 pub mod Order
 pub mod Rows
 pub mod Seen
+pub mod Waits

@@ -34,7 +34,9 @@ mod operands;
 mod order;
 mod rows;
 mod view;
+mod waits;
 
 pub use asked::push_asked;
 pub use rows::push_call_row;
 pub use view::{View, run_viewed};
+pub use waits::push_waits;

@@ -3,6 +3,7 @@
 use Rattle.std.specs.Prelude.{◌≡◌, ◌⊎◌, ℕ, Bool, true, false, List, [], ◌++◌, slice_get, codes}
 use Rattle.std.specs.Prelude.{Option, Some, None, is_some}
 use Rattle.std.specs.Fmt.{decimal}
+use Rattle.std.specs.List.{flat_map}
 use Rattle.posix_terms.specs.declared.transcript.HistoryRow.{HistoryRow}
 use Rattle.posix_terms.specs.declared.transcript.Row.{Row}
 use Rattle.machine.specs.declared.stop.Stop.{Stop}
@@ -11,6 +12,8 @@ use Rattle.input_log.specs.Fronts.{HasNoFront, IsFront}
 use Rattle.input_log.specs.declared.fault.LogFault.{LogFault}
 use Rattle.input_log.specs.declared.log.LogText.{LogText}
 use Rattle.input_log.specs.declared.log.Record.{Record}
+use Rattle.answered_calls.specs.Blocked.{lines_blocked}
+use Rattle.answered_calls.specs.declared.blocked.BlockedLine.{BlockedLine}
 use Rattle.command_texts.specs.LogTexts.{record_line}
 use Rattle.command_texts.specs.Transcripts.{◌+++◌}
 use Rattle.run_views.specs.Calls.{asked_text}
@@ -79,16 +82,31 @@ RecordSays (Some text) thread number lines =
     × (lines ≡ found_words (record_of thread number log.records)))
     ⊎ ((fault : LogFault) × HasNoFront text fault × (lines ≡ []))
 
--- ---- both
+-- ---- why it stopped
 
 -- these lines say why a run of scripts with these texts stopped so, in which the threads saw this
 -- and these turns were granted, by the log in this text or by none. They are none where it came to
 -- its end, or stopped for something else than an outcome
-abbrev pub IsReason : List (List ℕ) → List (List Row) → List HistoryRow → Option (List ℕ)
+abbrev pub IsStopReason : List (List ℕ) → List (List Row) → List HistoryRow → Option (List ℕ)
     → Option Stop → List ℕ → Type 0
-IsReason texts transcripts rows log (Some (stop.EndOfLog thread)) lines =
+IsStopReason texts transcripts rows log (Some (stop.EndOfLog thread)) lines =
     lines ≡ asked texts transcripts rows thread ++ missing_line (is_some log) rows thread
-IsReason texts transcripts rows log (Some (stop.Diverged thread number)) lines =
+IsStopReason texts transcripts rows log (Some (stop.Diverged thread number)) lines =
     (had : List ℕ) × RecordSays log thread number had
     × (lines ≡ asked texts transcripts rows thread ++ had)
-IsReason texts transcripts rows log _ lines = lines ≡ []
+IsStopReason texts transcripts rows log _ lines = lines ≡ []
+
+-- ---- both
+
+-- the call on this line of a script was blocked for good
+abbrev pub blocked_words : BlockedLine → List ℕ
+blocked_words blocked =
+    codes "line " +++ decimal blocked.line +++ codes " of script " +++ decimal blocked.thread
+    +++ codes " was blocked for good\n"
+
+-- these lines say why the run stopped so, and then which of its calls were blocked for good
+abbrev pub IsReason : List (List ℕ) → List (List Row) → List HistoryRow → Option (List ℕ)
+    → Option Stop → List ℕ → Type 0
+IsReason texts transcripts rows log stop lines =
+    (why : List ℕ) × IsStopReason texts transcripts rows log stop why
+    × (lines ≡ why ++ flat_map blocked_words (lines_blocked texts transcripts rows))

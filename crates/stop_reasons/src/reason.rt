@@ -1,13 +1,15 @@
 ghost use Rattle.std.specs.Prelude.{◌≡◌, ℕ, List, ◌++◌, IfOk, OnOk, is_some, option_copied};
 ghost use Rattle.std.specs.Prelude.{slice_get};
 ghost use Rattle.stop_reasons.specs.Found.{line_asked};
-ghost use Rattle.stop_reasons.specs.Reasons.{IsReason, RecordSays, asked, asked_line, end_words};
+ghost use Rattle.stop_reasons.specs.Reasons.{IsReason, IsStopReason, RecordSays, asked, asked_line};
+ghost use Rattle.stop_reasons.specs.Reasons.{blocked_words, end_words};
+ghost use Rattle.std.specs.List.{flat_map};
 ghost use Rattle.stop_reasons.specs.Reasons.{found_words, known_line_words, line_words};
 ghost use Rattle.stop_reasons.specs.Reasons.{missing_line, no_record_words, record_words};
 ghost use Rattle.stop_reasons.specs.Reasons.{turn_words};
 
 use crate::found::{outcomes_of, record_of, unanswered};
-use answered_calls::next_call_line;
+use answered_calls::{BlockedLine, lines_blocked, next_call_line};
 use call_machine::Stop;
 use command_texts::{push_number, push_record, push_word};
 use input_log::{LogFault, Record, decode_front};
@@ -28,8 +30,9 @@ pub struct StoppedRun<'a> {
     pub log: Option<&'a [u8]>,
 }
 
-/// The lines that say why this run stopped so, each with its line feed; none where it came to its
-/// end, or stopped for something else than an outcome. It fails only where there is no memory.
+/// The lines that say why this run stopped so, and which of its calls were blocked for good, each with
+/// its line feed; none where it came to its end, or stopped for something else than an outcome, and
+/// where no calls were. It fails only where there is no memory.
 pub fn stop_reason(
     alloc: Global,
     run: StoppedRun<'_>,
@@ -37,6 +40,38 @@ pub fn stop_reason(
 ) -> Result<Vec<u8>, AllocError>
     ensures { IfOk result (λ lines.
         IsReason run.entry.texts.now run.entry.transcripts.now run.entry.rows.now
+        (option_copied run.entry.log) stop lines.items) }
+{
+    let blocked = lines_blocked(alloc, run.texts, run.transcripts, run.rows)?;
+    let mut lines = stop_lines(alloc, run, stop)?;
+    push_blocked(&mut lines, &blocked)?;
+    Ok(lines)
+}
+
+// Adds a line for each call that was blocked for good.
+fn push_blocked(text: &mut Vec<u8>, blocked: &[BlockedLine]) -> Result<(), AllocError>
+    ensures { OnOk result (text.new.items ≡ text.old.items ++ flat_map blocked_words blocked.now) }
+{
+    for line in blocked {
+        push_blocked_line(text, *line)?;
+    }
+    Ok(())
+}
+
+fn push_blocked_line(text: &mut Vec<u8>, blocked: BlockedLine) -> Result<(), AllocError>
+    ensures { OnOk result (text.new.items ≡ text.old.items ++ blocked_words blocked) }
+{
+    push_word(text, "line ")?;
+    push_number(text, blocked.line as u64)?;
+    push_word(text, " of script ")?;
+    push_number(text, blocked.thread as u64)?;
+    push_word(text, " was blocked for good\n")
+}
+
+// The lines that say why a run stopped so.
+fn stop_lines(alloc: Global, run: StoppedRun<'_>, stop: Option<Stop>) -> Result<Vec<u8>, AllocError>
+    ensures { IfOk result (λ lines.
+        IsStopReason run.entry.texts.now run.entry.transcripts.now run.entry.rows.now
         (option_copied run.entry.log) stop lines.items) }
 {
     match stop {

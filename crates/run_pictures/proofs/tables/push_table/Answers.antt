@@ -11,8 +11,10 @@ returns c =
       c.in_ok-push_escaped.ensures,
       c.in_ok-push_word-2.ensures,
       c.in_ok-push_end.ensures,
+      c.in_ok-push_waits.ensures,
       c.in_ok-push_word-3.ensures,
       c.in_ok-push_rows.ensures,
       c.deref.ensures.value,
+      c.deref-2.ensures.value,
     )
     at c.push_word-4.ensures

@@ -1,0 +1,9 @@
+use Rattle.std.proofs.Common.{◌≡◌, ◌++◌, drop}
+use Rattle.std.specs.List.{flat_map}
+use Rattle.stop_reasons.specs.Reasons.{blocked_words}
+use Rattle.stop_reasons.proofs.reason.push_blocked.Given as goal
+
+abbrev pub invariant-loop-line : goal.invariant-loop-line
+invariant-loop-line l =
+    l.text.items ++ flat_map blocked_words (drop l.line-index l.blocked)
+    ≡ l.initial.text.items ++ flat_map blocked_words l.blocked
