@@ -1,14 +1,15 @@
--- What is found of groups, one after the other, and how many runs failed.
+-- What is found of groups, one after the other, and how many runs are counted.
 use Rattle.std.proofs.Common.{◌≤◌, ℕ, Bool, true, false, List, [], ◌∷◌, ◌++◌, arith}
 use Rattle.std.proofs.lemmas.List.Sums.{sum_by-cons}
 use Rattle.std.specs.List.{AllZip}
-use Rattle.std.specs.Option.{is_some}
 use Rattle.std.specs.Prelude.{if◌then◌else◌}
 use Rattle.explorer.specs.Groups.{runs_of}
 use Rattle.explorer.specs.Subject.{Subject}
 use Rattle.explorer.specs.declared.groups.Group.{Group}
 use Rattle.explorer.specs.declared.observation.Observation.{Observation}
-use Rattle.explore_texts.specs.Found.{IsFinding, failed_of}
+use Rattle.explore_texts.specs.Found.{IsFinding, counted, tallied}
+use Rattle.explore_texts.specs.Judged.{is_counted}
+use Rattle.explore_texts.specs.declared.judgement.Tally.{Tally}
 use Rattle.explore_texts.specs.declared.finding.Finding.{Finding}
 use Rattle.explore_texts.specs.declared.schedule.Schedule.{Schedule}
 
@@ -24,17 +25,17 @@ at_most : (b : Bool) (n : ℕ) → (if b then n else 0) ≤ n
 at_most true n = omega arith
 at_most false n = omega arith
 
--- no more runs failed than there are
-pub failed_below : (subject : Subject) (schedule : Schedule) (before : Observation)
+-- no more runs are counted than there are
+pub tallied_below : (subject : Subject) (schedule : Schedule) (before : Observation)
     (groups : List Group) (findings : List Finding)
     → AllZip (IsFinding subject schedule before) groups findings
-    → failed_of findings ≤ runs_of groups
-failed_below subject schedule before [] [] all = omega arith
-failed_below subject schedule before [] (finding ∷ findings) all = elim all [ ]
-failed_below subject schedule before (group ∷ groups) [] all = elim all [ ]
-failed_below subject schedule before (group ∷ groups) (finding ∷ findings) all =
-    let failed = sum_by-cons (λ (f : Finding). f.failed) finding findings in
+    → (tally : Tally) → tallied tally findings ≤ runs_of groups
+tallied_below subject schedule before [] [] all tally = omega arith
+tallied_below subject schedule before [] (finding ∷ findings) all tally = elim all [ ]
+tallied_below subject schedule before (group ∷ groups) [] all tally = elim all [ ]
+tallied_below subject schedule before (group ∷ groups) (finding ∷ findings) all tally =
+    let some = sum_by-cons (counted tally) finding findings in
     let runs = sum_by-cons (λ (g : Group). g.runs) group groups in
-    let here = at_most (is_some all.0.unmet) group.runs in
-    let rest = failed_below subject schedule before groups findings all.1 in
-    omega (arith, failed, runs, all.0.failed, here, rest)
+    let here = at_most (is_counted tally finding.judgement) finding.runs in
+    let rest = tallied_below subject schedule before groups findings all.1 tally in
+    omega (arith, some, runs, all.0.count, here, rest)

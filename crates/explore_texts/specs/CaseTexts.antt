@@ -5,14 +5,14 @@ use Rattle.std.specs.Prelude.{Option, Some, None, codes}
 use Rattle.std.specs.Fmt.{decimal}
 use Rattle.posix_terms.specs.Errors.{name_of}
 use Rattle.posix_terms.specs.declared.outcome.Given.{Given}
-use Rattle.explorer.specs.declared.observation.Observation.{Observation}
 use Rattle.fault_injection.specs.declared.cases.FaultCase.{FaultCase}
 use Rattle.fault_injection.specs.declared.injected.Injected.{Injected}
 use Rattle.fault_injection.specs.declared.injected.Injected.TheVariants as injected
 use Rattle.command_texts.specs.LogTexts.{request_word}
 use Rattle.command_texts.specs.Transcripts.{◌+++◌}
 use Rattle.command_texts.specs.declared.printed.Printed.{Printed}
-use Rattle.explore_texts.specs.Found.{failed_of, found_printed}
+use Rattle.explore_texts.specs.Found.{counts_text, found_printed}
+use Rattle.explore_texts.specs.declared.explored_text.Shown.{Shown}
 use Rattle.explore_texts.specs.declared.finding.Finding.{Finding}
 
 -- what comes in place of an outcome
@@ -32,13 +32,11 @@ case_text outcomes case =
     +++ kind_text (slice_get (slice_index_or outcomes case.thread []) case.number)
     +++ injected_text case.injected +++ codes " "
 
--- how many cases there are, and how many failed
-unfoldable pub case_sums : ℕ → ℕ → List ℕ
-case_sums cases failed =
-    codes "cases " +++ decimal cases +++ codes " failed " +++ decimal failed +++ codes "\n"
+-- how many cases there are, and what they came to
+unfoldable pub case_sums : List Finding → List ℕ
+case_sums findings =
+    codes "cases " +++ decimal (length findings) +++ counts_text findings +++ codes "\n"
 
 -- what is printed of the run by the log as it is and of these cases
-abbrev pub cases_printed :
-    Observation → List ℕ → Option (List ℕ) → List Finding → Printed
-cases_printed before cut unmet findings =
-    found_printed before cut unmet findings (case_sums (length findings) (failed_of findings))
+abbrev pub cases_printed : Shown → Finding → List Finding → Printed
+cases_printed shown as_is findings = found_printed shown as_is findings (case_sums findings)

@@ -1,8 +1,8 @@
 -- Believed: a contract of a command stands on it.
 -- What is found of runs that are compared with one, and how it is printed.
-use Rattle.std.specs.Prelude.{◌≡◌, ◌↔◌, ◌||◌, not, IsTrue, Bool, true, false}
+use Rattle.std.specs.Prelude.{◌≡◌, ◌↔◌, ◌&&◌, IsTrue, Bool, true, false}
 use Rattle.std.specs.Prelude.{ℕ, ◌==◌}
-use Rattle.std.specs.Prelude.{List, [], ◌++◌, length, slice_get, sum_by, codes, All}
+use Rattle.std.specs.Prelude.{List, [], ◌∷◌, ◌++◌, length, slice_get, sum_by, codes, All}
 use Rattle.std.specs.Prelude.{Option, Some, None, MatchOption, is_some, option_and_then}
 use Rattle.std.specs.Prelude.{if◌then◌else◌}
 use Rattle.std.specs.Fmt.{decimal}
@@ -20,7 +20,17 @@ use Rattle.explorer.specs.declared.observation.Observation.{Observation}
 use Rattle.command_texts.specs.Transcripts.{◌+++◌, call_text, end_words}
 use Rattle.command_texts.specs.declared.printed.Printed.{Printed}
 use Rattle.command_inputs.specs.Expects.{IsAsExpected, IsFirstUnmetLine}
+use Rattle.answered_calls.specs.Blocked.{blocked_lines}
+use Rattle.answered_calls.specs.declared.blocked.BlockedLine.{BlockedLine}
 use Rattle.explore_texts.specs.CutOffs.{cut_of, cut_text}
+use Rattle.explore_texts.specs.Judged.{is_counted, judged, passes}
+use Rattle.run_views.specs.Waits.{waits_text}
+use Rattle.explore_texts.specs.Waits.{are_unexpected}
+use Rattle.explore_texts.specs.declared.explored_text.Shown.{Shown}
+use Rattle.explore_texts.specs.declared.judgement.Allowed.{Allowed}
+use Rattle.explore_texts.specs.declared.judgement.Judgement.{Judgement}
+use Rattle.explore_texts.specs.declared.judgement.Tally.{Tally}
+use Rattle.explore_texts.specs.declared.judgement.Tally.TheVariants as tallies
 use Rattle.explore_texts.specs.Schedules.{delays_by, front_text, left_text}
 use Rattle.explore_texts.specs.declared.finding.Finding.{Finding}
 use Rattle.explore_texts.specs.declared.schedule.Schedule.{Schedule}
@@ -67,22 +77,42 @@ abbrev pub unmet_text : Option (List ℕ) → List ℕ
 unmet_text None = codes "\n"
 unmet_text (Some line) = codes " " +++ line
 
--- how a run ended, and which threads ended only because they had executed as many lines as a thread
--- may
-abbrev pub ending_text : Observation → List ℕ → List ℕ
-ending_text observation cut = end_words observation.stop +++ cut_text cut
+-- how a run ended, which threads ended only because they had executed as many lines as a thread
+-- may, and at which lines calls were blocked for good
+abbrev pub ending_text : Observation → List ℕ → List BlockedLine → List ℕ
+ending_text observation cut waits =
+    end_words observation.stop +++ cut_text cut +++ waits_text waits
 
 -- the line of the run without delays
-abbrev pub as_is_text : Observation → List ℕ → Option (List ℕ) → List ℕ
-as_is_text before cut unmet = codes "as they are " +++ ending_text before cut +++ unmet_text unmet
+abbrev pub as_is_text : Observation → List ℕ → List BlockedLine → Option (List ℕ) → List ℕ
+as_is_text before cut waits unmet =
+    codes "as they are " +++ ending_text before cut waits +++ unmet_text unmet
 
 -- what a line says of runs after their counts: how they ended, what differs in them, and the first
 -- reply that is not as expected
 abbrev pub found_text :
-    Observation → Observation → List ℕ → Verdict → Bool → Option (List ℕ) → List ℕ
-found_text before now cut verdict ends_alike unmet =
-    ending_text now cut +++ codes " " +++ difference_text before.seen now.seen verdict ends_alike
-    +++ unmet_text unmet
+    Observation → Observation → List ℕ → List BlockedLine → Verdict → Bool → Option (List ℕ)
+    → List ℕ
+found_text before now cut waits verdict ends_alike unmet =
+    ending_text now cut waits +++ codes " "
+    +++ difference_text before.seen now.seen verdict ends_alike +++ unmet_text unmet
+
+-- where the calls stand that were blocked for good
+abbrev pub waits_in : List (List ℕ) → Observation → List BlockedLine
+waits_in texts observation = blocked_lines texts observation.seen observation.blocked
+
+-- what a run of these texts came to in which this was seen and this is unmet
+abbrev pub judgement_in : List (List ℕ) → Observation → Option (List ℕ) → Judgement
+judgement_in texts observation unmet =
+    judged (is_some unmet) (are_unexpected texts (waits_in texts observation)) observation.stop
+
+-- what is found of the run of these texts as they are
+pub record IsFoundAsIs
+    (texts : List (List ℕ)) (before : Observation) (finding : Finding) : Type 0 where
+  pub expected : IsUnmetIn texts before finding.unmet
+  pub line : finding.line
+      ≡ as_is_text before (cut_of texts before) (waits_in texts before) finding.unmet
+  pub came_to : finding.judgement ≡ judgement_in texts before finding.unmet
 
 -- What is found of so many runs, in a line that begins so: the first row that differs from what was
 -- seen before, whether the runs ended like that one, and the line of the first reply that is not as
@@ -94,10 +124,11 @@ pub record IsFound
   pub differs : IsVerdictOn before.seen now.seen verdict
   pub ends_alike : Bool
   pub ends : IsTrue ends_alike ↔ EndAlike before now
-  pub unmet : Option (List ℕ)
-  pub expected : IsUnmetIn texts now unmet
-  pub line : finding.line ≡ front ++ found_text before now cut verdict ends_alike unmet
-  pub failed : finding.failed ≡ (if is_some unmet then runs else 0)
+  pub expected : IsUnmetIn texts now finding.unmet
+  pub line : finding.line
+      ≡ front ++ found_text before now cut (waits_in texts now) verdict ends_alike finding.unmet
+  pub count : finding.runs ≡ runs
+  pub came_to : finding.judgement ≡ judgement_in texts now finding.unmet
 
 -- the threads that were cut off in the first run of a group
 abbrev pub cut_in : Subject → (ℕ → ℕ → ℕ → Option ℕ) → Group → List ℕ
@@ -110,32 +141,68 @@ IsFinding subject schedule before group finding =
     IsFound subject.texts before (front_text schedule group) group.runs group.observation
     (cut_in subject (delays_by schedule) group) finding
 
--- how many runs failed
-abbrev pub failed_of : List Finding → ℕ
-failed_of findings = sum_by (λ (finding : Finding). finding.failed) findings
+-- how many of a finding's runs are counted here
+abbrev pub counted : Tally → Finding → ℕ
+counted tally finding = if is_counted tally finding.judgement then finding.runs else 0
+
+-- how many runs are
+abbrev pub tallied : Tally → List Finding → ℕ
+tallied tally findings = sum_by (counted tally) findings
+
+-- how many runs stopped for one reason, if any did
+abbrev pub cause_text : List ℕ → ℕ → List ℕ
+cause_text word count = if count == 0 then [] else word +++ decimal count
+
+-- how many runs stopped for each reason for which any did
+unfoldable pub causes_text : List Finding → List ℕ
+causes_text findings =
+    cause_text (codes " clock full ") (tallied tallies.ClockFull findings)
+    +++ cause_text (codes " end of log ") (tallied tallies.EndOfLog findings)
+    +++ cause_text (codes " diverged ") (tallied tallies.Diverged findings)
+
+-- how many runs are counted here, after this word
+abbrev pub count_text : List ℕ → Tally → List Finding → List ℕ
+count_text word tally findings = word +++ decimal (tallied tally findings)
+
+-- how many runs failed, how many stopped, by their reasons too, and in how many calls were blocked
+-- for good
+unfoldable pub counts_text : List Finding → List ℕ
+counts_text findings =
+    count_text (codes " failed ") tallies.Failed findings
+    +++ count_text (codes " stopped ") tallies.Stopped findings +++ causes_text findings
+    +++ count_text (codes " blocked ") tallies.Blocked findings
+
+-- the line of a finding, unless only those of faults are shown and it is none
+abbrev pub line_shown : Shown → Finding → List ℕ
+line_shown shown finding =
+    if shown.failed_only && passes shown.allowed finding.judgement then [] else finding.line
 
 -- the lines of these findings, in order
-abbrev pub lines_of : List Finding → List ℕ
-lines_of findings = flat_map (λ (finding : Finding). finding.line) findings
+abbrev pub lines_of : Shown → List Finding → List ℕ
+lines_of shown findings = flat_map (line_shown shown) findings
 
--- how many runs and groups there are, how many runs failed, and how many lists were not run
-unfoldable pub sums_text : Schedule → List Group → ℕ → List ℕ
-sums_text schedule groups failed =
+-- how many runs and groups there are, what they came to, and how many lists were not run
+unfoldable pub sums_text : Schedule → List Group → List Finding → List ℕ
+sums_text schedule groups findings =
     codes "runs " +++ decimal (runs_of groups) +++ codes " groups " +++ decimal (length groups)
-    +++ codes " failed " +++ decimal failed +++ left_text schedule groups +++ codes "\n"
+    +++ counts_text findings +++ left_text schedule groups +++ codes "\n"
+
+-- none of these is a fault
+abbrev pub all_pass : Allowed → List Finding → Bool
+all_pass allowed [] = true
+all_pass allowed (finding ∷ findings) =
+    passes allowed finding.judgement && all_pass allowed findings
 
 -- what is printed of the run as it is and of what was found of others, with these sums: the status
--- is 1 where a reply of that run or of one of these is not as expected
-abbrev pub found_printed :
-    Observation → List ℕ → Option (List ℕ) → List Finding → List ℕ → Printed
-found_printed before cut unmet findings sums = record {
-  status = if is_some unmet || not (failed_of findings == 0) then 1 else 0;
-  output = as_is_text before cut unmet ++ lines_of findings ++ sums;
+-- is 1 where one of them is a fault
+abbrev pub found_printed : Shown → Finding → List Finding → List ℕ → Printed
+found_printed shown as_is findings sums = record {
+  status = if passes shown.allowed as_is.judgement && all_pass shown.allowed findings then 0 else 1;
+  output = as_is.line ++ lines_of shown findings ++ sums;
   errors = [];
 }
 
 -- what is printed of runs with delays
-abbrev pub explored_printed :
-    Schedule → Observation → List ℕ → Option (List ℕ) → List Group → List Finding → Printed
-explored_printed schedule before cut unmet groups findings =
-    found_printed before cut unmet findings (sums_text schedule groups (failed_of findings))
+abbrev pub explored_printed : Shown → Schedule → Finding → List Group → List Finding → Printed
+explored_printed shown schedule as_is groups findings =
+    found_printed shown as_is findings (sums_text schedule groups findings)

@@ -3,43 +3,41 @@ ghost use Rattle.std.specs.Prelude.{◌≡◌, ◌++◌, ◌<◌, ◌^◌, [], I
 ghost use Rattle.std.specs.Prelude.{option_copied, slice_get};
 ghost use Rattle.explore_texts.specs.CaseTexts.{case_sums, case_text, cases_printed, injected_text};
 ghost use Rattle.explore_texts.specs.CaseTexts.{kind_text};
-ghost use Rattle.explore_texts.specs.Found.{failed_of};
+ghost use Rattle.explore_texts.specs.Found.{tallied};
+ghost use Rattle.explore_texts.specs.declared.judgement.Tally.{Tally};
 
-use crate::explored_text::{failed_runs, found_printed};
+use crate::explored_text::{Shown, found_printed, push_counts};
 use crate::finding::Finding;
 use command_texts::{Printed, push_number, push_word, request_word};
-use explorer::Observation;
 use fault_injection::{FaultCase, Injected};
-use posix_terms::{Bytes, Given, Outcomes, errno_name};
+use posix_terms::{Given, Outcomes, errno_name};
 use std::alloc::{AllocError, Global};
 
-/// What is printed of what was found of cases, where this was seen by the outcomes as they are, and
-/// this was not as expected there.
+/// What is printed of what was found of cases, and of the run by the outcomes as they are.
 pub fn cases_printed(
     alloc: Global,
-    before: &Observation,
-    cut: &[usize],
-    unmet: &Option<Bytes>,
+    shown: Shown,
+    as_is: &Finding,
     findings: &[Finding],
 ) -> Result<Printed, AllocError>
-    requires { failed_of findings.now < 2 ^ 64 }
+    requires { (tally : Tally) → tallied tally findings.now < 2 ^ 64 }
     ensures { IfOk result (λ printed.
-        printed ≡ cases_printed before.now cut.now unmet.now findings.now) }
+        printed ≡ cases_printed shown as_is.now findings.now) }
 {
     let mut sums = Vec::new(alloc);
-    push_sums(&mut sums, findings.len(), failed_runs(findings))?;
-    found_printed(alloc, before, cut, unmet, findings, &sums)
+    push_sums(&mut sums, findings)?;
+    found_printed(alloc, shown, as_is, findings, &sums)
 }
 
 // Adds the last line.
 #[tactic(auto, unfolding(crate::specs::CaseTexts::case_sums))]
-fn push_sums(text: &mut Vec<u8>, cases: usize, failed: u64) -> Result<(), AllocError>
-    ensures { OnOk result (text.new.items ≡ text.old.items ++ case_sums cases failed) }
+fn push_sums(text: &mut Vec<u8>, findings: &[Finding]) -> Result<(), AllocError>
+    requires { (tally : Tally) → tallied tally findings.now < 2 ^ 64 }
+    ensures { OnOk result (text.new.items ≡ text.old.items ++ case_sums findings.now) }
 {
     push_word(text, "cases ")?;
-    push_number(text, cases as u64)?;
-    push_word(text, " failed ")?;
-    push_number(text, failed)?;
+    push_number(text, findings.len() as u64)?;
+    push_counts(text, findings)?;
     push_word(text, "\n")
 }
 

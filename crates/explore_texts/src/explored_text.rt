@@ -1,109 +1,138 @@
 // What is printed of runs that are compared with one.
 ghost use Rattle.std.specs.Prelude.{◌≡◌, ◌++◌, ◌<◌, ◌^◌, IfOk, OnOk, option_copied};
 ghost use Rattle.explorer.specs.Groups.{runs_of};
-ghost use Rattle.explore_texts.specs.Found.{as_is_text, change_text, difference_text, differs_text};
-ghost use Rattle.explore_texts.specs.Found.{ending_text, explored_printed, failed_of};
-ghost use Rattle.explore_texts.specs.Found.{found_printed};
-ghost use Rattle.explore_texts.specs.Found.{found_text, lines_of, row_at, seen_text, sums_text};
+ghost use Rattle.explore_texts.specs.Found.{all_pass, as_is_text, cause_text, causes_text};
+ghost use Rattle.explore_texts.specs.Found.{change_text, count_text, counted};
+ghost use Rattle.explore_texts.specs.Found.{counts_text, difference_text, differs_text};
+ghost use Rattle.explore_texts.specs.Found.{ending_text};
+ghost use Rattle.explore_texts.specs.Found.{explored_printed, found_printed, found_text};
+ghost use Rattle.explore_texts.specs.Found.{line_shown};
+ghost use Rattle.explore_texts.specs.Found.{lines_of, row_at, seen_text, sums_text, tallied};
 ghost use Rattle.explore_texts.specs.Found.{unmet_text};
 
 use crate::cut_off::push_cut;
 use crate::finding::Finding;
+use crate::judgement::{Allowed, Tally};
 use crate::schedule::Schedule;
 use crate::schedule_text::push_left;
+use answered_calls::BlockedLine;
 use command_texts::{Printed, push_call, push_end, push_number, push_word};
 use comparator::Verdict;
 use explorer::{Group, Observation};
 use posix_terms::{Bytes, Row, Transcripts};
+use run_views::push_waits;
 use std::alloc::{AllocError, Global};
 
-/// What is printed of these groups and of what was found of them, where this was seen without
-/// delays and this was not as expected there.
+/// Which lines are printed, and what is a fault.
+#[derive(Clone, Copy, Debug, PartialEq, Eq)]
+pub struct Shown {
+    pub allowed: Allowed,
+    /// Only the lines of what is a fault.
+    pub failed_only: bool,
+}
+
+/// What is printed of these groups and of what was found of them and of the run without delays.
 pub fn explored_printed(
     alloc: Global,
+    shown: Shown,
     schedule: &Schedule,
-    before: &Observation,
-    cut: &[usize],
-    unmet: &Option<Bytes>,
+    as_is: &Finding,
     groups: &[Group],
     findings: &[Finding],
 ) -> Result<Printed, AllocError>
     requires runs { runs_of groups.now < 2 ^ 64 }
-    requires failed { failed_of findings.now < 2 ^ 64 }
+    requires tallied { (tally : Tally) → tallied tally findings.now < 2 ^ 64 }
     ensures { IfOk result (λ printed.
-        printed
-        ≡ explored_printed schedule.now before.now cut.now unmet.now groups.now findings.now) }
+        printed ≡ explored_printed shown schedule.now as_is.now groups.now findings.now) }
 {
     let mut sums = Vec::new(alloc);
-    push_sums(&mut sums, schedule, groups, failed_runs(findings))?;
-    found_printed(alloc, before, cut, unmet, findings, &sums)
+    push_sums(&mut sums, schedule, groups, findings)?;
+    found_printed(alloc, shown, as_is, findings, &sums)
 }
 
-// What is printed of what was found, where this was seen in the run as it is and this was not as
-// expected there; the sums come last.
+// What is printed of what was found of runs, and of the run as it is; the sums come last.
 pub(crate) fn found_printed(
     alloc: Global,
-    before: &Observation,
-    cut: &[usize],
-    unmet: &Option<Bytes>,
+    shown: Shown,
+    as_is: &Finding,
     findings: &[Finding],
     sums: &[u8],
 ) -> Result<Printed, AllocError>
-    requires { failed_of findings.now < 2 ^ 64 }
     ensures { IfOk result (λ printed.
-        printed ≡ found_printed before.now cut.now unmet.now findings.now sums.now) }
+        printed ≡ found_printed shown as_is.now findings.now sums.now) }
 {
     let mut output = Vec::new(alloc);
-    push_as_is(&mut output, before, cut, unmet)?;
-    push_lines(&mut output, findings)?;
+    output.extend_from_slice(as_is.line.as_slice())?;
+    push_lines(&mut output, shown, findings)?;
     output.extend_from_slice(sums)?;
+    let passes = as_is.judgement.passes(shown.allowed) && all_pass(shown.allowed, findings);
     Ok(Printed {
-        status: if unmet.is_some() || failed_runs(findings) != 0 {
-            1
-        } else {
-            0
-        },
+        status: if passes { 0 } else { 1 },
         output: Bytes::from_vec(output),
         errors: Bytes::from_vec(Vec::new(alloc)),
     })
 }
 
+// Whether none of these is a fault.
+fn all_pass(allowed: Allowed, findings: &[Finding]) -> bool
+    ensures { result ≡ all_pass allowed findings.now }
+{
+    for finding in findings {
+        if !finding.judgement.passes(allowed) {
+            return false;
+        }
+    }
+    true
+}
+
 // Adds the line of the run as it is.
-fn push_as_is(
+pub(crate) fn push_as_is(
     text: &mut Vec<u8>,
     before: &Observation,
     cut: &[usize],
+    waits: &[BlockedLine],
     unmet: &Option<Bytes>,
 ) -> Result<(), AllocError>
     ensures { OnOk result (
-        text.new.items ≡ text.old.items ++ as_is_text before.now cut.now unmet.now) }
+        text.new.items ≡ text.old.items ++ as_is_text before.now cut.now waits.now unmet.now) }
 {
     push_word(text, "as they are ")?;
-    push_ending(text, before, cut)?;
+    push_ending(text, before, cut, waits)?;
     push_unmet(text, unmet)
 }
 
-// Adds how a run ended, and which threads were cut off in it.
+// Adds how a run ended, which threads were cut off in it, and which calls were blocked for good.
 fn push_ending(
     text: &mut Vec<u8>,
     observation: &Observation,
     cut: &[usize],
+    waits: &[BlockedLine],
 ) -> Result<(), AllocError>
     ensures { OnOk result (
-        text.new.items ≡ text.old.items ++ ending_text observation.now cut.now) }
+        text.new.items ≡ text.old.items ++ ending_text observation.now cut.now waits.now) }
 {
     push_end(text, observation.stop)?;
-    push_cut(text, cut)
+    push_cut(text, cut)?;
+    push_waits(text, waits)
 }
 
-// Adds the lines of groups.
-fn push_lines(text: &mut Vec<u8>, findings: &[Finding]) -> Result<(), AllocError>
-    ensures { OnOk result (text.new.items ≡ text.old.items ++ lines_of findings.now) }
+// Adds the lines of what was found, all or those of what is a fault.
+fn push_lines(text: &mut Vec<u8>, shown: Shown, findings: &[Finding]) -> Result<(), AllocError>
+    ensures { OnOk result (text.new.items ≡ text.old.items ++ lines_of shown findings.now) }
 {
     for finding in findings {
-        text.extend_from_slice(finding.line.as_slice())?;
+        push_if_shown(text, shown, finding)?;
     }
     Ok(())
+}
+
+fn push_if_shown(text: &mut Vec<u8>, shown: Shown, finding: &Finding) -> Result<(), AllocError>
+    ensures { OnOk result (text.new.items ≡ text.old.items ++ line_shown shown finding.now) }
+{
+    if shown.failed_only && finding.judgement.passes(shown.allowed) {
+        return Ok(());
+    }
+    text.extend_from_slice(finding.line.as_slice())
 }
 
 // Adds what is found of runs: how they ended, what differs in them, and the first reply that is not
@@ -113,15 +142,17 @@ pub(crate) fn push_found(
     before: &Observation,
     now: &Observation,
     cut: &[usize],
+    waits: &[BlockedLine],
     verdict: Verdict,
     ends_alike: bool,
     unmet: &Option<Bytes>,
 ) -> Result<(), AllocError>
     ensures { OnOk result (
         text.new.items
-        ≡ text.old.items ++ found_text before.now now.now cut.now verdict ends_alike unmet.now) }
+        ≡ text.old.items
+        ++ found_text before.now now.now cut.now waits.now verdict ends_alike unmet.now) }
 {
-    push_ending(text, now, cut)?;
+    push_ending(text, now, cut, waits)?;
     push_word(text, " ")?;
     push_difference(text, &before.seen, &now.seen, verdict, ends_alike)?;
     push_unmet(text, unmet)
@@ -214,20 +245,71 @@ fn push_sums(
     text: &mut Vec<u8>,
     schedule: &Schedule,
     groups: &[Group],
-    failed: u64,
+    findings: &[Finding],
 ) -> Result<(), AllocError>
-    requires { runs_of groups.now < 2 ^ 64 }
+    requires runs { runs_of groups.now < 2 ^ 64 }
+    requires tallied { (tally : Tally) → tallied tally findings.now < 2 ^ 64 }
     ensures { OnOk result (
-        text.new.items ≡ text.old.items ++ sums_text schedule.now groups.now failed) }
+        text.new.items
+        ≡ text.old.items ++ sums_text schedule.now groups.now findings.now) }
 {
     push_word(text, "runs ")?;
     push_number(text, all_runs(groups))?;
     push_word(text, " groups ")?;
     push_number(text, groups.len() as u64)?;
-    push_word(text, " failed ")?;
-    push_number(text, failed)?;
+    push_counts(text, findings)?;
     push_left(text, schedule, groups)?;
     push_word(text, "\n")
+}
+
+// Adds how many runs failed, how many stopped, by their reasons too, and in how many calls were
+// blocked for good.
+#[tactic(auto, unfolding(crate::specs::Found::counts_text))]
+pub(crate) fn push_counts(text: &mut Vec<u8>, findings: &[Finding]) -> Result<(), AllocError>
+    requires { (tally : Tally) → tallied tally findings.now < 2 ^ 64 }
+    ensures { OnOk result (text.new.items ≡ text.old.items ++ counts_text findings.now) }
+{
+    push_count(text, " failed ", Tally::Failed, findings)?;
+    push_count(text, " stopped ", Tally::Stopped, findings)?;
+    push_causes(text, findings)?;
+    push_count(text, " blocked ", Tally::Blocked, findings)
+}
+
+// Adds how many runs are counted here, after this word.
+fn push_count(
+    text: &mut Vec<u8>,
+    word: &str,
+    tally: Tally,
+    findings: &[Finding],
+) -> Result<(), AllocError>
+    requires { tallied tally findings.now < 2 ^ 64 }
+    ensures { OnOk result (
+        text.new.items ≡ text.old.items ++ count_text word.now tally findings.now) }
+{
+    push_word(text, word)?;
+    push_number(text, tallied(tally, findings))
+}
+
+// Adds how many runs stopped for each reason for which any did.
+#[tactic(auto, unfolding(crate::specs::Found::causes_text))]
+fn push_causes(text: &mut Vec<u8>, findings: &[Finding]) -> Result<(), AllocError>
+    requires { (tally : Tally) → tallied tally findings.now < 2 ^ 64 }
+    ensures { OnOk result (text.new.items ≡ text.old.items ++ causes_text findings.now) }
+{
+    push_cause(text, " clock full ", tallied(Tally::ClockFull, findings))?;
+    push_cause(text, " end of log ", tallied(Tally::EndOfLog, findings))?;
+    push_cause(text, " diverged ", tallied(Tally::Diverged, findings))
+}
+
+// Adds how many runs stopped for one reason, if any did.
+fn push_cause(text: &mut Vec<u8>, word: &str, count: u64) -> Result<(), AllocError>
+    ensures { OnOk result (text.new.items ≡ text.old.items ++ cause_text word.now count) }
+{
+    if count == 0 {
+        return Ok(());
+    }
+    push_word(text, word)?;
+    push_number(text, count)
 }
 
 pub(crate) fn all_runs(groups: &[Group]) -> u64
@@ -241,14 +323,25 @@ pub(crate) fn all_runs(groups: &[Group]) -> u64
     runs
 }
 
-// How many runs failed.
-pub(crate) fn failed_runs(findings: &[Finding]) -> u64
-    requires { failed_of findings.now < 2 ^ 64 }
-    ensures { result ≡ failed_of findings.now }
+// How many runs are counted here.
+fn tallied(tally: Tally, findings: &[Finding]) -> u64
+    requires { tallied tally findings.now < 2 ^ 64 }
+    ensures { result ≡ tallied tally findings.now }
 {
-    let mut failed = 0;
+    let mut count = 0;
     for finding in findings {
-        failed += finding.failed;
+        count += counted(tally, finding);
     }
-    failed
+    count
+}
+
+// How many of a finding's runs are.
+fn counted(tally: Tally, finding: &Finding) -> u64
+    ensures { result ≡ counted tally finding.now }
+{
+    if finding.judgement.is_counted(tally) {
+        finding.runs
+    } else {
+        0
+    }
 }

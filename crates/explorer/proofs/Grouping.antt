@@ -36,7 +36,7 @@ one_more_run case seen old new (inr begins) =
     (record { first = case; runs = 1; observation = seen })
 
 no_group : Group
-no_group = record { first = 0; runs = 0; observation = record { seen = []; ended = []; stop = None } }
+no_group = record { first = 0; runs = 0; observation = record { seen = []; ended = []; stop = None; blocked = [] } }
 
 -- no group has more runs than all together
 pub each_below : (groups : List Group) (limit : ℕ) → runs_of groups + 1 < limit

@@ -6,6 +6,7 @@ use Rattle.posix_terms.specs.declared.step.Step.{Step}
 use Rattle.posix_terms.specs.declared.step.Step.TheVariants as step
 use Rattle.posix_terms.specs.declared.transcript.Row.{Row}
 use Rattle.call_machine.specs.declared.plain.Plain.{Plain}
+use Rattle.deadlocks.specs.Blocked.{blocked_in}
 use Rattle.explorer.specs.declared.observation.Observation.{Observation}
 
 -- a row with 0 for the clock of its turn
@@ -31,8 +32,12 @@ observed plain = record {
   seen = seen_of plain.transcripts;
   ended = map has_ended plain.history.asked;
   stop = plain.stop;
+  blocked = blocked_in (map has_ended plain.history.asked) plain.history.rows;
 }
 
--- the same threads had ended in two runs, and they stopped alike
-abbrev pub EndAlike : Observation → Observation → Type 0
-EndAlike one other = (one.stop ≡ other.stop) × (one.ended ≡ other.ended)
+-- the same threads had ended in two runs, they stopped alike, and the same calls were blocked for
+-- good
+pub record EndAlike (one other : Observation) : Type 0 where
+  pub stop : one.stop ≡ other.stop
+  pub ended : one.ended ≡ other.ended
+  pub blocked : one.blocked ≡ other.blocked

@@ -33,6 +33,13 @@ impl EndedThreads {
         Ok(EndedThreads { threads })
     }
 
+    /// Of each thread, whether it had.
+    pub fn as_slice(&self) -> &[bool]
+        ensures { result.now ≡ self.now }
+    {
+        self.threads.as_slice()
+    }
+
     /// Whether this thread had. Where there is no such thread, it had not.
     pub fn has(&self, thread: usize) -> bool
         ensures { result ≡ slice_index_or self.now thread false }

@@ -4,17 +4,20 @@ ghost use Rattle.explorer.specs.Observations.{EndAlike, clockless, observed, see
 use crate::ended::EndedThreads;
 use call_machine::{Plain, Stop};
 use comparator::{Verdict, compare};
+use deadlocks::{BlockedCalls, blocked_for_good};
 use posix_terms::{Row, Transcript, Transcripts, Turn};
 use std::alloc::{AllocError, Global};
 
-/// What the threads of a run saw, which of them had ended, and why it stopped, if it did before all
-/// of them had.
+/// What the threads of a run saw, which of them had ended, why it stopped, if it did before all of
+/// them had, and which calls were blocked for good.
 #[derive(Debug, Drop)]
 pub struct Observation {
     /// Their calls and replies. The clock of each turn is 0.
     pub seen: Transcripts,
     pub ended: EndedThreads,
     pub stop: Option<Stop>,
+    /// The calls that were blocked for good when first all were.
+    pub blocked: BlockedCalls,
 }
 
 impl Observation {
@@ -22,19 +25,24 @@ impl Observation {
     pub fn new(alloc: Global, plain: &Plain) -> Result<Observation, AllocError>
         ensures { IfOk result (λ observation. observation ≡ observed plain.now) }
     {
+        let ended = EndedThreads::new(alloc, plain.history.asked())?;
+        let blocked = blocked_for_good(alloc, ended.as_slice(), plain.history.rows())?;
         Ok(Observation {
             seen: seen(alloc, plain.transcripts.threads())?,
-            ended: EndedThreads::new(alloc, plain.history.asked())?,
+            ended,
             stop: plain.stop,
+            blocked,
         })
     }
 
-    /// Whether two runs ended alike: the same threads had ended, and they stopped for the same
-    /// reason, or neither stopped.
+    /// Whether two runs ended alike: the same threads had ended, they stopped for the same reason, or
+    /// neither stopped, and the same calls were blocked for good, or none in both.
     pub fn ends_alike(&self, other: &Observation) -> bool
         ensures { IsTrue result ↔ EndAlike self.now other.now }
     {
-        self.stop == other.stop && self.ended.is_same(&other.ended)
+        self.stop == other.stop
+            && self.ended.is_same(&other.ended)
+            && self.blocked.is_same(&other.blocked)
     }
 
     /// Whether two runs ended alike, and their threads saw the same.

@@ -4,5 +4,5 @@ use Rattle.explore_texts.proofs.explored_text.push_lines.Given as goal
 
 abbrev pub invariant-loop-finding : goal.invariant-loop-finding
 invariant-loop-finding l =
-    l.text.items ++ lines_of (drop l.finding-index l.findings)
-    ≡ l.initial.text.items ++ lines_of l.findings
+    l.text.items ++ lines_of l.shown (drop l.finding-index l.findings)
+    ≡ l.initial.text.items ++ lines_of l.shown l.findings

@@ -6,7 +6,7 @@ use Rattle.explorer.specs.Subject.{subject}
 use Rattle.explorer.specs.declared.groups.Group.{Group}
 use Rattle.explore_texts.specs.Found.{IsFinding}
 use Rattle.explore_texts.specs.declared.finding.Finding.{Finding}
-use Rattle.explore_texts.proofs.Failing.{failed_below, pairs_more}
+use Rattle.explore_texts.proofs.Failing.{pairs_more, tallied_below}
 use Rattle.explore_texts.proofs.finding.findings.Goals as goal
 
 pub loop-group-preserved : goal.loop-group-preserved
@@ -27,8 +27,8 @@ loop-group-preserved c =
     subst (λ (all : List Group). AllZip R all c.push.new.self.items) (sym so_far)
     (subst (λ (all : List Finding). AllZip R (take k groups ++ group ∷ []) all) (sym added) more)
 
-pub returns-clause-failed : goal.returns-clause-failed
-returns-clause-failed c =
+pub returns-clause-tallied : goal.returns-clause-tallied
+returns-clause-tallied c = λ tally.
     let groups = c.args.groups.now in
     let index = c.loop-group.group-index in
     let findings = c.loop-group.findings.items in
@@ -38,4 +38,4 @@ returns-clause-failed c =
     let over : length groups ≤ index = omega (arith, c.loop-group-test.false) in
     let found = subst (λ (all : List Group). AllZip (IsFinding tried schedule before) all findings)
     (take_all index groups over) c.loop-group.invariant in
-    failed_below tried schedule before groups findings found
+    tallied_below tried schedule before groups findings found tally
