@@ -1,22 +1,20 @@
 -- Where all lines of a text are kept, it has the same lines, and a line the same number.
 use Rattle.std.proofs.Common.{◌≡◌, ◌∙◌, ℕ, zero, suc, ◌+◌, ◌-◌, ◌<◌, Bool, true, false, List, []}
-use Rattle.std.proofs.Common.{◌++◌, length, map, take, replicate, ap, refl, sym, subst, arith}
+use Rattle.std.proofs.Common.{◌++◌, length, map, take, ap, refl, sym, subst, arith}
 use Rattle.std.proofs.Common.{append_assoc, length-append, slice_get, Option, Some, None, Ok, Err}
 use Rattle.std.proofs.Common.{Result, ◌∷◌}
 use Rattle.std.proofs.Common.{option_map, count_by, filter_map, ◌==◌, ◌⊎◌, inl, inr, ◌≤◌}
 use Rattle.std.specs.Prelude.{cond, if◌then◌else◌, is_some, slice_index_or}
 use Rattle.std.specs.List.{cons_option, join_with_byte, range_with_len, slice_split}
-use Rattle.std.proofs.lemmas.List.{get_or-replicate, length-take-le}
+use Rattle.std.proofs.lemmas.List.{length-take-le}
 use Rattle.std.proofs.lemmas.List.{append-nil}
 use Rattle.std.proofs.lemmas.List.Sums.{sum_by-cons}
-use Rattle.std.proofs.lemmas.List.Folds.{sum_by-replicate}
 use Rattle.std.proofs.lemmas.Option.{slice_get-map}
 use Rattle.std.proofs.Math.Seq.{get_or-append_seam, take-append_seam}
-use Rattle.std.proofs.lemmas.List.{take-replicate}
 use Rattle.std.proofs.lemmas.List.Splits.{join_with_byte-slice_split}
 use Rattle.std.proofs.lemmas.Bool.{eqb-false}
 use Rattle.std.proofs.lemmas.Bool.Decides.{nat_tests}
-use Rattle.thread_scripts.specs.Words.{lines_of, without_last_feed}
+use Rattle.thread_scripts.specs.Words.{lines_of, without_last_feed, words_of}
 use Rattle.expectations.specs.Expected.{AreExpectations, expectation_below, expected_at}
 use Rattle.expectations.specs.Expected.{expected_below, last_counted, seen_of, words_expected}
 use Rattle.expectations.specs.Words.{wanted_of}
@@ -25,22 +23,33 @@ use Rattle.expectations.specs.declared.fault.Reason.{Reason}
 use Rattle.expectations.specs.declared.fault.Reason.TheVariants as reason
 use Rattle.expectations.specs.declared.wanted.Wanted.{Wanted}
 use Rattle.expectations.specs.declared.expected.Expectation.{Expectation}
-use Rattle.minimiser.specs.Reductions.{count_kept, kept_lines, kept_of, line_now, target_now}
+use Rattle.minimiser.specs.Parts.{is_delay, is_there, kept_line, part_of, units_among}
+use Rattle.minimiser.specs.declared.part.Part.{Part}
+use Rattle.minimiser.specs.declared.part.Part.TheVariants as part
+use Rattle.minimiser.specs.Reductions.{count_kept, kept_lines, kept_of, line_now, place_now}
 use Rattle.minimiser.specs.Reductions.{with_lines}
 use Rattle.minimiser.specs.Rounds.{all_of}
-use Rattle.minimiser.specs.declared.target.Target.{Target}
+use Rattle.minimiser.specs.declared.target.Place.{Place}
 
 -- ## Lines
 
+whole_line : (line : List ℕ) → kept_line (part_of line) line ≡ line ++ 10 ∷ []
+whole_line line = at (is_delay line) where
+  at : (b : Bool) → kept_line (if b then part.Delay (units_among (words_of line)) else part.Line) line
+      ≡ line ++ 10 ∷ []
+  at true = refl
+  at false = refl
+
 -- all of some lines are these, each with its line feed
 all_lines : (line : List ℕ) (lines : List (List ℕ))
-    → kept_lines (replicate (suc (length lines)) true) (line ∷ lines)
+    → kept_lines (map part_of (line ∷ lines)) (line ∷ lines)
     ≡ join_with_byte 10 (line ∷ lines) ++ 10 ∷ []
-all_lines line [] = append-nil (line ++ 10 ∷ [])
+all_lines line [] = append-nil (kept_line (part_of line) line) ∙ whole_line line
 all_lines line (next ∷ lines) =
-    let rest = kept_lines (replicate (suc (length lines)) true) (next ∷ lines) in
+    let rest = kept_lines (map part_of (next ∷ lines)) (next ∷ lines) in
     let joined = join_with_byte 10 (next ∷ lines) in
-    append_assoc line (10 ∷ []) rest
+    ap (λ (first : List ℕ). first ++ rest) (whole_line line)
+    ∙ append_assoc line (10 ∷ []) rest
     ∙ ap (λ (others : List ℕ). line ++ 10 ∷ others) (all_lines next lines)
     ∙ sym (append_assoc line (10 ∷ joined) (10 ∷ []))
 
@@ -64,7 +73,7 @@ fed_lines (b ∷ rest) =
     some_lines b (rest ++ 10 ∷ []) ∙ ap (slice_split (λ b. b == 10)) (without_fed (b ∷ rest))
 
 all_same : (text : List ℕ) (lines : List (List ℕ)) → slice_split (λ b. b == 10) text ≡ lines
-    → lines_of (kept_lines (replicate (length lines) true) lines) ≡ lines
+    → lines_of (kept_lines (map part_of lines) lines) ≡ lines
 all_same text [] is = refl
 all_same text (line ∷ lines) is =
     let whole : join_with_byte 10 (line ∷ lines) ≡ text =
@@ -74,8 +83,7 @@ all_same text (line ∷ lines) is =
 
 -- where all lines of a text are kept, it has the same lines
 pub lines_same : (text : List ℕ)
-    → lines_of (kept_lines (replicate (length (lines_of text)) true) (lines_of text))
-    ≡ lines_of text
+    → lines_of (kept_lines (map part_of (lines_of text)) (lines_of text)) ≡ lines_of text
 lines_same [] = refl
 lines_same (b ∷ rest) =
     all_same (without_last_feed (b ∷ rest)) (lines_of (b ∷ rest)) (sym (some_lines b rest))
@@ -172,11 +180,11 @@ lines_within texts all i e are at =
 -- ## Where a line stands among all
 
 kept_at : (texts : List (List ℕ)) (thread : ℕ) (text : List ℕ) → slice_get texts thread ≡ Some text
-    → kept_of (all_of texts) thread ≡ Some (replicate (length (lines_of text)) true)
+    → kept_of (all_of texts) thread ≡ Some (map part_of (lines_of text))
 kept_at [] thread text at = absurd (cc at)
 kept_at (first ∷ texts) zero text at =
     let same : first ≡ text = cc at in
-    ap (λ (t : List ℕ). Some (replicate (length (lines_of t)) true)) same
+    ap (λ (t : List ℕ). Some (map part_of (lines_of t))) same
 kept_at (first ∷ texts) (suc thread) text at = kept_at texts thread text at
 
 threads_before : (texts : List (List ℕ)) (thread : ℕ) (text : List ℕ)
@@ -184,37 +192,61 @@ threads_before : (texts : List (List ℕ)) (thread : ℕ) (text : List ℕ)
 threads_before [] thread text at = absurd (cc at)
 threads_before (first ∷ texts) zero text at = refl
 threads_before (first ∷ texts) (suc thread) text at =
-    let one : Option (List Bool) → ℕ = λ (t : Option (List Bool)). cond (is_some t) 1 0 in
-    let here : Option (List Bool) = Some (replicate (length (lines_of first)) true) in
+    let one : Option (List Part) → ℕ = λ (t : Option (List Part)). cond (is_some t) 1 0 in
+    let here : Option (List Part) = Some (map part_of (lines_of first)) in
     omega (
       arith,
       sum_by-cons one here (take thread (all_of texts)),
       threads_before texts thread text at,
     )
 
-line_among : (n line : ℕ) → IsNumber n line → line_now (replicate n true) line ≡ Some line
-line_among n line (k, inside, is) =
-    subst (λ (m : ℕ). line_now (replicate n true) m ≡ Some m) (sym is) now
+there_of : (line : List ℕ) → is_there (part_of line) ≡ true
+there_of line = at (is_delay line) where
+  at : (b : Bool)
+      → is_there (if b then part.Delay (units_among (words_of line)) else part.Line) ≡ true
+  at true = refl
+  at false = refl
+
+there_at : (lines : List (List ℕ)) (k : ℕ) → k < length lines
+    → is_there (slice_index_or (map part_of lines) k part.Gone) ≡ true
+there_at [] k inside = absurd (omega (arith, inside))
+there_at (line ∷ lines) zero inside = there_of line
+there_at (line ∷ lines) (suc k) inside = there_at lines k (omega (arith, inside))
+
+count_all : (lines : List (List ℕ)) (n : ℕ) → n ≤ length lines
+    → count_kept (take n (map part_of lines)) ≡ n
+count_all lines zero few = refl
+count_all [] (suc n) few = absurd (omega (arith, few))
+count_all (line ∷ lines) (suc n) few =
+    let one : Part → ℕ = λ (p : Part). cond (is_there p) 1 0 in
+    let here : one (part_of line) ≡ 1 = ap (λ (b : Bool). cond b 1 0) (there_of line) in
+    omega (
+      arith,
+      sum_by-cons one (part_of line) (take n (map part_of lines)),
+      here,
+      count_all lines n (omega (arith, few)),
+    )
+
+line_among : (lines : List (List ℕ)) (line : ℕ) → IsNumber (length lines) line
+    → line_now (map part_of lines) line ≡ Some line
+line_among lines line (k, inside, is) =
+    subst (λ (m : ℕ). line_now (map part_of lines) m ≡ Some m) (sym is) now
   where
-    now : line_now (replicate n true) (k + 1) ≡ Some (k + 1)
+    now : line_now (map part_of lines) (k + 1) ≡ Some (k + 1)
     now =
         let back : k + 1 - 1 ≡ k = omega arith in
-        let one : Bool → ℕ = λ (b : Bool). cond b 1 0 in
-        let few : k + 1 ≤ n = omega (arith, inside) in
-        let count : count_kept (take (k + 1) (replicate n true)) ≡ k + 1 =
-        ap count_kept (take-replicate (k + 1) n true few)
-        ∙ omega (arith, sum_by-replicate one (k + 1) true) in
-        rw (back, get_or-replicate n k true false inside) (ap Some count)
+        let few : k + 1 ≤ length lines = omega (arith, inside) in
+        rw (back, there_at lines k inside) (ap Some (count_all lines (k + 1) few))
 
-pub all_kept : (texts : List (List ℕ)) (target : Target) (text : List ℕ)
-    → slice_get texts target.thread ≡ Some text
-    → IsNumber (length (lines_of text)) target.call × IsNumber (length (lines_of text)) target.line
-    → target_now (all_of texts) target ≡ Some target
-all_kept texts target text at within =
-    let count = length (lines_of text) in
-    let call = line_among count target.call within.0 in
-    let line = line_among count target.line within.1 in
-    rw (kept_at texts target.thread text at, threads_before texts target.thread text at)
+pub all_kept : (texts : List (List ℕ)) (place : Place) (text : List ℕ)
+    → slice_get texts place.thread ≡ Some text
+    → IsNumber (length (lines_of text)) place.call × IsNumber (length (lines_of text)) place.line
+    → place_now (all_of texts) place ≡ Some place
+all_kept texts place text at within =
+    let lines = lines_of text in
+    let call = line_among lines place.call within.0 in
+    let line = line_among lines place.line within.1 in
+    rw (kept_at texts place.thread text at, threads_before texts place.thread text at)
     (ap (λ (o : Option ℕ).
-    with_lines target.thread target o (line_now (replicate count true) target.line)) call
-    ∙ ap (with_lines target.thread target (Some target.call)) line)
+    with_lines place.thread o (line_now (map part_of lines) place.line)) call
+    ∙ ap (with_lines place.thread (Some place.call)) line)

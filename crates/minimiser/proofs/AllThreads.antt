@@ -1,6 +1,6 @@
 -- Where all lines of all texts are kept, the same expectation fails.
-use Rattle.std.proofs.Common.{◌≡◌, ◌∙◌, ℕ, zero, suc, ◌+◌, true, List, [], ◌∷◌, length, map}
-use Rattle.std.proofs.Common.{take, replicate, slice_get, All, Option, option_map, Some, Ok, Err}
+use Rattle.std.proofs.Common.{◌≡◌, ◌∙◌, ℕ, zero, suc, ◌+◌, List, [], ◌∷◌, length, map}
+use Rattle.std.proofs.Common.{take, slice_get, All, Option, option_map, Some, Ok, Err}
 use Rattle.std.proofs.Common.{Result, IfOk}
 use Rattle.std.proofs.Common.{ap, refl, sym, subst}
 use Rattle.std.specs.Prelude.{IsSomeAnd, nat_le, nat_lt, ◌&&◌, ◌==◌, if◌then◌else◌}
@@ -25,16 +25,20 @@ use Rattle.command_texts.specs.Expecting.{IsGood}
 use Rattle.command_texts.specs.Reading.{script_before, scripts_from}
 use Rattle.explorer.specs.Subject.{Subject}
 use Rattle.minimiser.specs.Failing.{Fails, FailsIn, kept_subject}
-use Rattle.minimiser.specs.Reductions.{kept_lines, kept_outcomes, kept_texts, target_now}
+use Rattle.minimiser.specs.Reductions.{kept_lines, kept_outcomes, kept_texts, place_now}
+use Rattle.minimiser.specs.Reductions.{target_now}
+use Rattle.minimiser.specs.Parts.{part_of}
 use Rattle.minimiser.specs.Rounds.{all_of}
 use Rattle.minimiser.specs.Targets.{Expects, IsAsExpected, IsFirstTarget, IsUnmetIn}
-use Rattle.minimiser.specs.Targets.{error_of}
+use Rattle.minimiser.specs.Targets.{sameness_of}
+use Rattle.minimiser.specs.declared.target.Place.{Place}
+use Rattle.minimiser.specs.declared.target.Sameness.{Sameness}
 use Rattle.minimiser.specs.declared.target.Target.{Target}
 use Rattle.minimiser.proofs.AllLines.{all_kept, lines_same, lines_within}
 
 -- a text with all of its lines, each with its line feed
 fed : List ℕ → List ℕ
-fed text = kept_lines (replicate (length (lines_of text)) true) (lines_of text)
+fed text = kept_lines (map part_of (lines_of text)) (lines_of text)
 
 -- ## The scripts
 
@@ -100,9 +104,10 @@ fed_as_expected thread is = record {
   met = is.met;
 }
 
-fed_unmet : (number : ℕ) (thread : List ℕ × List Row) (target : Target)
-    → IsUnmetIn number thread target → IsUnmetIn number (fed_thread thread) target
-fed_unmet number thread target is = record {
+fed_unmet : (sameness : Sameness) (number : ℕ) (thread : List ℕ × List Row) (target : Target)
+    → IsUnmetIn sameness number thread target
+    → IsUnmetIn sameness number (fed_thread thread) target
+fed_unmet sameness number thread target is = record {
   calls = is.calls;
   expectations = is.expectations;
   expects = fed_expects thread is.calls is.expectations is.expects;
@@ -121,9 +126,10 @@ fed_threads (text ∷ texts) [] = refl
 fed_threads (text ∷ texts) (rows ∷ seen) =
     ap (λ (others : List (List ℕ × List Row)). (fed text, rows) ∷ others) (fed_threads texts seen)
 
-fed_first : (threads : List (List ℕ × List Row)) (target : Target) → IsFirstTarget threads target
-    → IsFirstTarget (map fed_thread threads) target
-fed_first threads target is = record {
+fed_first : (sameness : Sameness) (threads : List (List ℕ × List Row)) (target : Target)
+    → IsFirstTarget sameness threads target
+    → IsFirstTarget sameness (map fed_thread threads) target
+fed_first sameness threads target is = record {
   number = is.number;
   before = subst (All IsAsExpected) (sym (take-map fed_thread is.number threads))
       (All-map IsAsExpected fed_thread (take is.number threads)
@@ -131,7 +137,7 @@ fed_first threads target is = record {
       fed_as_expected (take is.number threads) is.before));
   thread = fed_thread is.thread;
   at = slice_get-map fed_thread threads is.number ∙ ap (option_map fed_thread) is.at;
-  unmet = fed_unmet is.number is.thread target is.unmet;
+  unmet = fed_unmet sameness is.number is.thread target is.unmet;
 }
 
 -- ## What is kept
@@ -165,9 +171,9 @@ scripts_count i (text ∷ texts) =
     (scripts_count (i + 1) texts)
 
 -- a run has as many lists of outcomes as texts
-outcomes_count : (given : Subject) (target : Target) → Fails given target
-    → length given.outcomes ≡ length given.texts
-outcomes_count given target fails =
+outcomes_count : (sameness : Sameness) (given : Subject) (target : Target)
+    → Fails sameness given target → length given.outcomes ≡ length given.texts
+outcomes_count sameness given target fails =
     let (scripts, are, run) = fails.run.sees.1 in
     let fit = run.threads in
     let few = nat_le 1 (length scripts) && nat_le (length scripts) limit.THREADS in
@@ -179,11 +185,12 @@ outcomes_count given target fails =
     same ∙ count
 
 -- the expectation fails in the run of all lines too
-all_fail : (given : Subject) (target : Target) → Fails given target
-    → Fails (kept_subject given (all_of given.texts)) target
-all_fail given target fails =
+all_fail : (sameness : Sameness) (given : Subject) (target : Target) → Fails sameness given target
+    → Fails sameness (kept_subject given (all_of given.texts)) target
+all_fail sameness given target fails =
     let texts = all_texts given.texts in
-    let outcomes = all_outcomes given.texts given.outcomes (outcomes_count given target fails) in
+    let outcomes = all_outcomes given.texts given.outcomes
+    (outcomes_count sameness given target fails) in
     let run = fails.run in
     let (scripts, are, plain_run) = run.sees.1 in
     record {
@@ -207,10 +214,10 @@ all_fail given target fails =
           run.sees.2,
         );
       };
-      first = subst (λ (all : List (List ℕ × List Row)). IsFirstTarget all target)
+      first = subst (λ (all : List (List ℕ × List Row)). IsFirstTarget sameness all target)
           (sym (ap (λ (all : List (List ℕ)). zip all fails.observation.seen) texts
           ∙ fed_threads given.texts fails.observation.seen))
-          (fed_first (zip given.texts fails.observation.seen) target fails.first);
+          (fed_first sameness (zip given.texts fails.observation.seen) target fails.first);
     }
 
 text_at : (texts : List (List ℕ)) (seen : List (List Row)) (i : ℕ) (thread : List ℕ × List Row)
@@ -223,28 +230,37 @@ text_at (text ∷ texts) (rows ∷ seen) zero thread at =
 text_at (text ∷ texts) (rows ∷ seen) (suc i) thread at = text_at texts seen i thread at
 
 -- its thread and its lines have the same numbers
-same_target : (given : Subject) (target : Target) → Fails given target
-    → target_now (all_of given.texts) target ≡ Some target
-same_target given target fails =
+same_place : (sameness : Sameness) (given : Subject) (target : Target)
+    → Fails sameness given target
+    → place_now (all_of given.texts) target.place ≡ Some target.place
+same_place sameness given target fails =
     let first = fails.first in
     let unmet = first.unmet in
     let thread = first.thread in
     let text = text_at given.texts fails.observation.seen first.number thread first.at in
     let within = lines_within (lines_of thread.0) unmet.expectations unmet.first.expectation
     unmet.expectation unmet.expects.are_expected unmet.at in
-    let made : Target = record {
+    let made : Place = record {
       thread = first.number;
       call = unmet.expectation.call;
       line = unmet.expectation.line;
-      error = error_of unmet.is_first.call.1;
     } in
-    subst (λ (t : Target). target_now (all_of given.texts) t ≡ Some t) (sym unmet.is)
+    let is : target.place ≡ made = ap (λ (t : Target). t.place) unmet.is in
+    subst (λ (p : Place). place_now (all_of given.texts) p ≡ Some p) (sym is)
     (all_kept given.texts made thread.0 text within)
 
+same_target : (sameness : Sameness) (given : Subject) (target : Target)
+    → Fails sameness given target → target_now (all_of given.texts) target ≡ Some target
+same_target sameness given target fails =
+    ap (option_map (λ place. record target { place = place }))
+    (same_place sameness given target fails)
+
 -- so it fails in what is kept
-pub all_fails : (given : Subject) (target : Target) → Fails given target
+pub all_fails : (given : Subject) (target : Target)
+    → Fails (sameness_of target.came) given target
     → FailsIn given target (all_of given.texts)
 all_fails given target fails =
+    let sameness = sameness_of target.came in
     subst (λ (now : Option Target).
-    IsSomeAnd now (Fails (kept_subject given (all_of given.texts))))
-    (sym (same_target given target fails)) (all_fail given target fails)
+    IsSomeAnd now (Fails sameness (kept_subject given (all_of given.texts))))
+    (sym (same_target sameness given target fails)) (all_fail sameness given target fails)

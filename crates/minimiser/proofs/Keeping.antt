@@ -1,19 +1,23 @@
 -- What is kept of nothing, and which steps are among those of a list.
-use Rattle.std.proofs.Common.{◌≡◌, ◌∙◌, ◌⊎◌, inl, inr, ℕ, zero, suc, ◌+◌, ◌-◌, ◌<◌, ◌≤◌, Bool, true}
-use Rattle.std.proofs.Common.{false, None, List, [], ◌∷◌, ◌++◌, length, drop, Contains, ap, arith}
+use Rattle.std.proofs.Common.{◌≡◌, ◌∙◌, ◌⊎◌, inl, inr, ℕ, zero, suc, ◌+◌, ◌-◌, ◌<◌, ◌≤◌, true}
+use Rattle.std.proofs.Common.{None, List, [], ◌∷◌, ◌++◌, length, drop, Contains, ap, arith}
 use Rattle.std.proofs.Common.{lit<, refl, subst, sym}
 use Rattle.std.proofs.lemmas.List.Elements.{Contains-append_left, Contains-append_right}
 use Rattle.std.proofs.Math.ListN.{drop_of_length-le}
 use Rattle.std.proofs.lemmas.List.{append-nil}
 use Rattle.std.proofs.Math.Nat.{eq-or-lt_of_le}
 use Rattle.std.specs.Prelude.{is_some, slice_index_or}
-use Rattle.minimiser.specs.Reductions.{Kept, is_kept, kept_lines, kept_outcomes, kept_texts}
+use Rattle.minimiser.specs.Reductions.{Kept, is_fewer, is_kept, kept_lines, kept_outcomes, kept_texts}
+use Rattle.minimiser.specs.Parts.{is_there, units_of}
+use Rattle.minimiser.specs.Scopes.{IsTaking}
+use Rattle.minimiser.specs.declared.part.Part.{Part}
+use Rattle.minimiser.specs.declared.part.Part.TheVariants as part
 use Rattle.minimiser.specs.declared.step.Removal.{Removal}
 use Rattle.minimiser.specs.declared.step.Removal.TheVariants as step
 
-pub no_lines : (kept : List Bool) → kept_lines kept [] ≡ []
+pub no_lines : (kept : List Part) → kept_lines kept [] ≡ []
 no_lines [] = refl
-no_lines (is_kept ∷ kept) = refl
+no_lines (part ∷ kept) = refl
 
 pub no_texts : (kept : Kept) → kept_texts kept [] ≡ []
 no_texts [] = refl
@@ -61,11 +65,18 @@ here_or_earlier n k below = split (eq-or-lt_of_le at_most)
     split same = same
 
 -- a line that is kept is one of those that were given
-pub kept_within : (lines : List Bool) (line : ℕ) → slice_index_or lines line false ≡ true
-    → line < length lines
+pub kept_within : (lines : List Part) (line : ℕ)
+    → is_there (slice_index_or lines line part.Gone) ≡ true → line < length lines
 kept_within [] line is = absurd (cc is)
-kept_within (is_kept ∷ lines) zero is = omega arith
-kept_within (is_kept ∷ lines) (suc line) is = omega (arith, kept_within lines line is)
+kept_within (part ∷ lines) zero is = omega arith
+kept_within (part ∷ lines) (suc line) is = omega (arith, kept_within lines line is)
+
+-- and so is a delay that has fewer units
+pub fewer_within : (lines : List Part) (line units : ℕ)
+    → is_fewer units (units_of (slice_index_or lines line part.Gone)) ≡ true → line < length lines
+fewer_within [] line units is = absurd (cc is)
+fewer_within (part ∷ lines) zero units is = omega arith
+fewer_within (part ∷ lines) (suc line) units is = omega (arith, fewer_within lines line units is)
 
 -- a thread that is kept is one of those that were given
 pub thread_within : (kept : Kept) (thread : ℕ) → is_some (slice_index_or kept thread None) ≡ true
@@ -82,12 +93,23 @@ thread_of_line_within (lines ∷ kept) zero line is = omega arith
 thread_of_line_within (lines ∷ kept) (suc thread) line is =
     omega (arith, thread_of_line_within kept thread line is)
 
+-- and of a delay that has fewer units
+pub thread_of_fewer_within : (kept : Kept) (thread line units : ℕ)
+    → is_kept kept (step.Shorten thread line units) ≡ true → thread < length kept
+thread_of_fewer_within [] thread line units is = absurd (cc is)
+thread_of_fewer_within (lines ∷ kept) zero line units is = omega arith
+thread_of_fewer_within (lines ∷ kept) (suc thread) line units is =
+    omega (arith, thread_of_fewer_within kept thread line units is)
+
 -- where the steps of all lines are there, and those of all threads, each step is that may be made
 pub each_step : (kept : Kept) (steps : List Removal) (count : ℕ) → length kept ≤ count
     → ((thread line : ℕ) → is_kept kept (step.Line thread line) ≡ true
     → Contains steps (step.Line thread line))
     → ((thread : ℕ) → thread < count → Contains steps (step.Thread thread))
-    → (step : Removal) → is_kept kept step ≡ true → Contains steps step
-each_step kept steps count all lines threads (step.Line thread line) is = lines thread line is
-each_step kept steps count all lines threads (step.Thread thread) is =
+    → (step : Removal) → IsTaking step → is_kept kept step ≡ true → Contains steps step
+each_step kept steps count all lines threads (step.Line thread line) taking is =
+    lines thread line is
+each_step kept steps count all lines threads (step.Thread thread) taking is =
     threads thread (omega (arith, thread_within kept thread is, all))
+each_step kept steps count all lines threads (step.Shorten thread line units) taking is =
+    absurd taking

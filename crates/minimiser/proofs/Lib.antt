@@ -1,6 +1,10 @@
+pub mod Halving
+pub mod FailsNow
 pub mod AllLines
 pub mod AllThreads
 pub mod OneTarget
 pub mod Keeping
+pub mod Shapes
 pub mod Taking
+pub mod Standing
 pub mod Threads

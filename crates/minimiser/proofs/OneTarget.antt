@@ -22,7 +22,8 @@ use Rattle.explorer.specs.Subject.{Subject}
 use Rattle.explorer.specs.declared.observation.Observation.{Observation}
 use Rattle.minimiser.specs.Failing.{Fails, IsRunOf}
 use Rattle.minimiser.specs.Targets.{Expects, IsAsExpected, IsFirstTarget, IsUnmetIn}
-use Rattle.minimiser.specs.Targets.{error_of}
+use Rattle.minimiser.specs.Targets.{came_of}
+use Rattle.minimiser.specs.declared.target.Sameness.{Sameness}
 use Rattle.minimiser.specs.declared.target.Target.{Target}
 
 all_at : {A : Type 0} (P : A → Type 0) (xs : List A) (i : ℕ) (x : A) → All P xs
@@ -74,9 +75,10 @@ along calls others expectations more first same alike is =
     (subst (λ (all : List (ℕ × Reply)). IsFirstUnmet expectations all first) same is)
 
 -- where all replies are as expected, none is not
-apart : (list : OneList) (none : NoneWhereMet) (number : ℕ) (thread : List ℕ × List Row)
-    (target : Target) → IsAsExpected thread → IsUnmetIn number thread target → ⊥
-apart list none number thread target all unmet =
+apart : (list : OneList) (none : NoneWhereMet) (s : Sameness) (number : ℕ)
+    (thread : List ℕ × List Row) (target : Target) → IsAsExpected thread
+    → IsUnmetIn s number thread target → ⊥
+apart list none s number thread target all unmet =
     let same = one_calls thread unmet.calls all.calls unmet.expectations all.expectations
     unmet.expects all.expects in
     let alike = one_list list thread unmet.calls all.calls unmet.expectations all.expectations
@@ -86,10 +88,10 @@ apart list none number thread target all unmet =
     unmet.is_first)
 
 -- and one at most is the first
-one_in_thread : (list : OneList) (one : OneFirst) (number : ℕ) (thread : List ℕ × List Row)
-    (target other : Target) → IsUnmetIn number thread target → IsUnmetIn number thread other
-    → target ≡ other
-one_in_thread list one number thread target other a b =
+one_in_thread : (list : OneList) (one : OneFirst) (s : Sameness) (number : ℕ)
+    (thread : List ℕ × List Row) (target other : Target) → IsUnmetIn s number thread target
+    → IsUnmetIn s number thread other → target ≡ other
+one_in_thread list one s number thread target other a b =
     let same = one_calls thread a.calls b.calls a.expectations b.expectations a.expects b.expects in
     let alike =
     one_list list thread a.calls b.calls a.expectations b.expectations a.expects b.expects in
@@ -101,10 +103,8 @@ one_in_thread list one number thread target other a b =
     cc (same, first, a.is_first.at, b.is_first.at) in
     let made : Expectation → ℕ × Reply → Target =
     λ (e : Expectation). λ (call : ℕ × Reply). record {
-      thread = number;
-      call = e.call;
-      line = e.line;
-      error = error_of call.1;
+      place = record { thread = number; call = e.call; line = e.line };
+      came = came_of s call.1;
     } in
     a.is ∙ ap (λ (e : Expectation). made e a.is_first.call) expectation
     ∙ ap (made b.expectation) call ∙ sym b.is
@@ -119,66 +119,68 @@ pub record Laws : Type 0 where
   pub first : OneFirst
 
 -- of two threads with such a reply, the least one
-not_before : (laws : Laws) (threads : List (List ℕ × List Row)) (target other : Target)
-    → (a : IsFirstTarget threads target) → (b : IsFirstTarget threads other)
-    → ¬ (a.number < b.number)
-not_before laws threads target other a b before =
+not_before : (laws : Laws) (s : Sameness) (threads : List (List ℕ × List Row))
+    (target other : Target) → (a : IsFirstTarget s threads target)
+    → (b : IsFirstTarget s threads other) → ¬ (a.number < b.number)
+not_before laws s threads target other a b before =
     let expected =
     all_before IsAsExpected threads b.number a.number a.thread b.before before a.at in
-    apart laws.list laws.none a.number a.thread target expected a.unmet
+    apart laws.list laws.none s a.number a.thread target expected a.unmet
 
-one_target : (laws : Laws) (threads : List (List ℕ × List Row)) (target other : Target)
-    → IsFirstTarget threads target → IsFirstTarget threads other → target ≡ other
-one_target laws threads target other a b = by_order (cases_order a.number b.number)
+one_target : (laws : Laws) (s : Sameness) (threads : List (List ℕ × List Row))
+    (target other : Target) → IsFirstTarget s threads target → IsFirstTarget s threads other
+    → target ≡ other
+one_target laws s threads target other a b = by_order (cases_order a.number b.number)
   where
     by_order : (a.number ≡ b.number) ⊎ ((a.number < b.number) ⊎ (b.number < a.number))
         → target ≡ other
     by_order (inl same) =
         let thread : a.thread ≡ b.thread = cc (same, a.at, b.at) in
-        let here = subst (λ (n : ℕ). IsUnmetIn n a.thread target) same a.unmet in
-        let unmet = subst (λ (thread : List ℕ × List Row). IsUnmetIn b.number thread target) thread
+        let here = subst (λ (n : ℕ). IsUnmetIn s n a.thread target) same a.unmet in
+        let unmet = subst (λ (thread : List ℕ × List Row). IsUnmetIn s b.number thread target) thread
         here in
-        one_in_thread laws.list laws.first b.number b.thread target other unmet b.unmet
-    by_order (inr (inl before)) = absurd (not_before laws threads target other a b before)
-    by_order (inr (inr after)) = absurd (not_before laws threads other target b a after)
+        one_in_thread laws.list laws.first s b.number b.thread target other unmet b.unmet
+    by_order (inr (inl before)) = absurd (not_before laws s threads target other a b before)
+    by_order (inr (inr after)) = absurd (not_before laws s threads other target b a after)
 
 -- ## What is found
 
 -- where nothing is run nothing fails
-pub none_run : (subject : Subject) → ((seen : Observation) → ¬ (IsRunOf subject seen))
-    → (target : Target) → (None ≡ Some target) ↔ Fails subject target
-none_run subject none target = (
+pub none_run : (s : Sameness) (subject : Subject)
+    → ((seen : Observation) → ¬ (IsRunOf subject seen)) → (target : Target)
+    → (None ≡ Some target) ↔ Fails s subject target
+none_run s subject none target = (
   λ (is : None ≡ Some target). absurd (cc is),
-  λ (fails : Fails subject target). absurd (none fails.observation fails.run),
+  λ (fails : Fails s subject target). absurd (none fails.observation fails.run),
 )
 
 -- what is found in what is seen fails in the run
-pub found_in : (laws : Laws) (subject : Subject) (seen : Observation) → IsRunOf subject seen
+pub found_in : (laws : Laws) (s : Sameness) (subject : Subject) (seen : Observation) → IsRunOf subject seen
     → (found : Option Target)
     → MatchOption found (All IsAsExpected (zip subject.texts seen.seen))
-    (IsFirstTarget (zip subject.texts seen.seen))
-    → (target : Target) → (found ≡ Some target) ↔ Fails subject target
-found_in laws subject seen run None all target = (
+    (IsFirstTarget s (zip subject.texts seen.seen))
+    → (target : Target) → (found ≡ Some target) ↔ Fails s subject target
+found_in laws s subject seen run None all target = (
   λ (is : None ≡ Some target). absurd (cc is),
-  λ (fails : Fails subject target).
+  λ (fails : Fails s subject target).
       let same = one_seen laws.run subject fails.observation seen fails.run run in
-      let first = subst (λ (o : Observation). IsFirstTarget (zip subject.texts o.seen) target) same
+      let first = subst (λ (o : Observation). IsFirstTarget s (zip subject.texts o.seen) target) same
       fails.first in
       let threads = zip subject.texts seen.seen in
-      absurd (apart laws.list laws.none first.number first.thread target
+      absurd (apart laws.list laws.none s first.number first.thread target
       (all_at IsAsExpected threads first.number first.thread all first.at) first.unmet),
 )
-found_in laws subject seen run (Some found) is_first target = (
+found_in laws s subject seen run (Some found) is_first target = (
   λ (is : Some found ≡ Some target).
       let same : found ≡ target = cc is in
       record {
         observation = seen;
         run = run;
-        first = subst (IsFirstTarget (zip subject.texts seen.seen)) same is_first;
+        first = subst (IsFirstTarget s (zip subject.texts seen.seen)) same is_first;
       },
-  λ (fails : Fails subject target).
+  λ (fails : Fails s subject target).
       let same = one_seen laws.run subject fails.observation seen fails.run run in
-      let first = subst (λ (o : Observation). IsFirstTarget (zip subject.texts o.seen) target) same
+      let first = subst (λ (o : Observation). IsFirstTarget s (zip subject.texts o.seen) target) same
       fails.first in
-      ap Some (one_target laws (zip subject.texts seen.seen) found target is_first first),
+      ap Some (one_target laws s (zip subject.texts seen.seen) found target is_first first),
 )

@@ -21,7 +21,8 @@ use Rattle.expectations.specs.Places.{call_after, call_before, calls_from, calls
 use Rattle.expectations.specs.Unmet.{IsFirstUnmet}
 use Rattle.expectations.specs.declared.expected.Expectation.{Expectation}
 use Rattle.expectations.specs.declared.unmet.Unmet.{Unmet}
-use Rattle.minimiser.specs.Targets.{IsAsExpected, IsUnmetIn, error_of}
+use Rattle.minimiser.specs.Targets.{IsAsExpected, IsUnmetIn, came_of}
+use Rattle.minimiser.specs.declared.target.Sameness.{Sameness}
 use Rattle.minimiser.specs.declared.target.Target.{Target}
 
 pair_at : {A B : Type 0} (xs : List A) (ys : List B) (i : ℕ) (x : A) (y : B)
@@ -106,7 +107,7 @@ row_within script expectations rows first is =
     )
 
 -- the first reply that is not as expected, by its expectation and its row
-pub unmet_here : (number : ℕ) (text : List ℕ) (rows : List Row) (script : List Line)
+pub unmet_here : (s : Sameness) (number : ℕ) (text : List ℕ) (rows : List Row) (script : List Line)
     (expectations : List Expectation) (first : Unmet) (expectation : Expectation) (row : Row)
     (target : Target)
     → script_of text ≡ Ok script
@@ -115,13 +116,11 @@ pub unmet_here : (number : ℕ) (text : List ℕ) (rows : List Row) (script : Li
     → expectation ≡ get_or expectations first.expectation expectation
     → row ≡ get_or rows first.row row
     → target ≡ record {
-      thread = number;
-      call = expectation.call;
-      line = expectation.line;
-      error = error_of row.reply;
+      place = record { thread = number; call = expectation.call; line = expectation.line };
+      came = came_of s row.reply;
     }
-    → IsUnmetIn number (text, rows) target
-unmet_here number text rows script expectations first expectation row target is_script are is_first
+    → IsUnmetIn s number (text, rows) target
+unmet_here s number text rows script expectations first expectation row target is_script are is_first
     wanted came is =
     let here = is_first.here in
     let reply_of : Row → Reply = λ (row : Row). row.reply in
@@ -146,9 +145,7 @@ unmet_here number text rows script expectations first expectation row target is_
       at = slice_get_read expectations (length expectations) first.expectation expectation refl
           (slice_get_within expectations first.expectation here.expectation here.at) wanted;
       is = is ∙ ap (λ (reply : Reply). record {
-        thread = number;
-        call = expectation.call;
-        line = expectation.line;
-        error = error_of reply;
+        place = record { thread = number; call = expectation.call; line = expectation.line };
+        came = came_of s reply;
       }) reply;
     }

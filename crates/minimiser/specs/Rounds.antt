@@ -1,9 +1,12 @@
--- Internal: no contract of the headline or of a command stands on it.
+-- Believed: a contract of a command stands on it.
 -- Where it begins to take away, what it tries first, and how much is kept.
-use Rattle.std.specs.Prelude.{ℕ, ◌+◌, Bool, true, false, List, [], ◌∷◌, ◌++◌, length, map, sum_by}
-use Rattle.std.specs.Prelude.{replicate, Option, Some, None, bytes_eq, codes, if◌then◌else◌}
-use Rattle.thread_scripts.specs.Words.{lines_of, words_of}
-use Rattle.minimiser.specs.Reductions.{Kept, count_kept}
+use Rattle.std.specs.Prelude.{ℕ, ◌+◌, List, [], ◌∷◌, ◌++◌, map, sum_by, Option, Some, None}
+use Rattle.std.specs.Prelude.{if◌then◌else◌}
+use Rattle.thread_scripts.specs.Words.{lines_of}
+use Rattle.minimiser.specs.Parts.{is_delay, part_of}
+use Rattle.minimiser.specs.Reductions.{Kept}
+use Rattle.minimiser.specs.declared.part.Part.{Part}
+use Rattle.minimiser.specs.declared.part.Part.TheVariants as part
 use Rattle.minimiser.specs.declared.step.Removal.{Removal}
 use Rattle.minimiser.specs.declared.step.Removal.TheVariants as step
 
@@ -11,18 +14,9 @@ use Rattle.minimiser.specs.declared.step.Removal.TheVariants as step
 
 -- all lines of these texts are kept
 abbrev pub all_of : List (List ℕ) → Kept
-all_of texts = map (λ text. Some (replicate (length (lines_of text)) true)) texts
+all_of texts = map (λ text. Some (map part_of (lines_of text))) texts
 
 -- ## The delays, which are lines of work
-
--- the first word is that of a work
-abbrev pub work_first : Option (List (List ℕ)) → Bool
-work_first (Some (word ∷ operands)) = bytes_eq word (codes "work")
-work_first _ = false
-
--- the line is a delay
-abbrev pub is_delay : List ℕ → Bool
-is_delay line = work_first (words_of line)
 
 -- the step that takes away this line of a thread, if it is a delay
 abbrev pub delay_at : ℕ → ℕ → List ℕ → List Removal
@@ -42,11 +36,18 @@ delays_of thread (text ∷ texts) =
 
 -- ## How much is kept
 
--- a line counts one, and so does a thread
-abbrev pub size_of_thread : Option (List Bool) → ℕ
-size_of_thread None = 0
-size_of_thread (Some lines) = count_kept lines + 1
+-- a line counts one, and each unit of a delay does
+abbrev pub size_of_part : Part → ℕ
+size_of_part part.Gone = 0
+size_of_part part.Line = 1
+size_of_part (part.Delay units) = units + 1
+size_of_part (part.Shorter units) = units + 1
 
--- how many lines and threads are kept
+-- so does a thread
+abbrev pub size_of_thread : Option (List Part) → ℕ
+size_of_thread None = 0
+size_of_thread (Some lines) = sum_by size_of_part lines + 1
+
+-- how much is kept
 abbrev pub size_of : Kept → ℕ
 size_of kept = sum_by size_of_thread kept

@@ -14,6 +14,10 @@ use Rattle.expectations.specs.Places.{calls_of}
 use Rattle.expectations.specs.Unmet.{AreMet, IsFirstUnmet}
 use Rattle.expectations.specs.declared.expected.Expectation.{Expectation}
 use Rattle.expectations.specs.declared.unmet.Unmet.{Unmet}
+use Rattle.minimiser.specs.declared.target.Came.{Came}
+use Rattle.minimiser.specs.declared.target.Came.TheVariants as came
+use Rattle.minimiser.specs.declared.target.Sameness.{Sameness}
+use Rattle.minimiser.specs.declared.target.Sameness.TheVariants as same
 use Rattle.minimiser.specs.declared.target.Target.{Target}
 
 -- a thread's text and the rows that it saw: the text is this script, whose calls have these places
@@ -38,9 +42,20 @@ abbrev pub error_of : Reply → Option Errno
 error_of (reply.Fail error) = Some error
 error_of _ = None
 
+-- what came, as far as it has to come again
+abbrev pub came_of : Sameness → Reply → Came
+came_of same.Error reply = came.Error (error_of reply)
+came_of same.Reply reply = came.Reply reply
+
+-- how far it has to
+abbrev pub sameness_of : Came → Sameness
+sameness_of (came.Error error) = same.Error
+sameness_of (came.Reply reply) = same.Reply
+
 -- the first reply of the thread with this number that is not, and the expectation that it does not
 -- meet
-pub record IsUnmetIn (number : ℕ) (thread : List ℕ × List Row) (target : Target) : Type 0 where
+pub record IsUnmetIn
+    (sameness : Sameness) (number : ℕ) (thread : List ℕ × List Row) (target : Target) : Type 0 where
   pub calls : List (ℕ × Reply)
   pub expectations : List Expectation
   pub expects : Expects thread calls expectations
@@ -49,16 +64,15 @@ pub record IsUnmetIn (number : ℕ) (thread : List ℕ × List Row) (target : Ta
   pub expectation : Expectation
   pub at : slice_get expectations first.expectation ≡ Some expectation
   pub is : target ≡ record {
-    thread = number;
-    call = expectation.call;
-    line = expectation.line;
-    error = error_of is_first.call.1;
+    place = record { thread = number; call = expectation.call; line = expectation.line };
+    came = came_of sameness is_first.call.1;
   }
 
 -- that of the least thread that has one
-pub record IsFirstTarget (threads : List (List ℕ × List Row)) (target : Target) : Type 0 where
+pub record IsFirstTarget
+    (sameness : Sameness) (threads : List (List ℕ × List Row)) (target : Target) : Type 0 where
   pub number : ℕ
   pub before : All IsAsExpected (take number threads)
   pub thread : List ℕ × List Row
   pub at : slice_get threads number ≡ Some thread
-  pub unmet : IsUnmetIn number thread target
+  pub unmet : IsUnmetIn sameness number thread target

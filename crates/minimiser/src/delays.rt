@@ -1,7 +1,9 @@
-ghost use Rattle.std.specs.Prelude.{◌≡◌, ◌++◌, IfOk, OnOk, map, option_map};
+ghost use Rattle.std.specs.Prelude.{◌≡◌, ◌++◌, IfOk, OnOk};
 ghost use Rattle.thread_scripts.specs.Words.{lines_of};
-ghost use Rattle.minimiser.specs.Rounds.{delay_at, delays_among, delays_of, is_delay, work_first};
+ghost use Rattle.minimiser.specs.Parts.{is_delay};
+ghost use Rattle.minimiser.specs.Rounds.{delay_at, delays_among, delays_of};
 
+use crate::part::work_first;
 use crate::step::Removal;
 use posix_terms::Bytes;
 use std::alloc::{AllocError, Global};
@@ -49,17 +51,4 @@ fn is_delay(alloc: Global, line: &[u8]) -> Result<bool, AllocError>
     ensures { IfOk result (λ is. is ≡ is_delay line.now) }
 {
     Ok(work_first(&line_words(alloc, line)?))
-}
-
-// Whether the first word is that of a work.
-fn work_first(words: &Option<Vec<&[u8]>>) -> bool
-    ensures { result ≡ work_first (option_map (λ v. map (λ w. w.now) v.items) words.now) }
-{
-    match words {
-        Some(words) => match words.first() {
-            Some(word) => *word == b"work".as_slice(),
-            None => false,
-        },
-        None => false,
-    }
 }

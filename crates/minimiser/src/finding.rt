@@ -3,31 +3,38 @@ ghost use Rattle.std.specs.List.{zip};
 ghost use Rattle.explorer.specs.Subject.{subject};
 ghost use Rattle.explorer.specs.declared.observation.Observation.{Observation};
 ghost use Rattle.minimiser.specs.Failing.{Fails, IsRunOf};
-ghost use Rattle.minimiser.specs.Targets.{IsAsExpected, IsFirstTarget, IsUnmetIn, error_of};
+ghost use Rattle.minimiser.specs.Targets.{IsAsExpected, IsFirstTarget, IsUnmetIn};
 ghost use Rattle.minimiser.specs.declared.target.Target.{Target};
 
-use crate::target::Target;
+use crate::target::{Came, Place, Sameness, Target};
 use call_machine::plain_runs_agree;
 use command_texts::first_bad_expectation;
 use expectations::{Unmet, expectations_of, first_unmet, one_first_unmet, one_reading};
 use explorer::{Observation, RunFault, Trial};
-use posix_terms::{Bytes, Errno, Reply, Row, Transcript};
+use posix_terms::{Bytes, Row, Transcript};
 use std::alloc::{AllocError, Global};
 use thread_scripts::parse;
 
 /// How these scripts fail in their plain run: by the first reply that is not as expected, of the
-/// least thread that has one. Returns `None` where all replies are as expected, a text is not a
-/// script, an expectation is bad, or the scripts cannot be run, as for their number or the settings.
-/// An error means out of memory.
-pub fn find_target(alloc: Global, trial: Trial<'_>) -> Result<Option<Target>, AllocError>
-    ensures { IfOk result (λ found.
-        (target : Target) → (found ≡ Some target) ↔ Fails (subject trial.entry) target) }
+/// least thread that has one. `sameness` says how much of it has to come again. Returns `None` where
+/// all replies are as expected, a text is not a script, an expectation is bad, or the scripts cannot
+/// be run, as for their number or the settings. An error means out of memory.
+pub fn find_target(
+    alloc: Global,
+    trial: Trial<'_>,
+    sameness: Sameness,
+) -> Result<Option<Target>, AllocError>
+    ensures { IfOk result (λ found. (target : Target)
+        → (found ≡ Some target) ↔ Fails sameness (subject trial.entry) target) }
 {
     plain_runs_agree();
     one_reading();
     one_first_unmet();
     match seen_in(alloc, trial)? {
-        Some(observation) => first_target(alloc, trial.texts, observation.seen.threads()),
+        Some(observation) => {
+            let transcripts = observation.seen.threads();
+            first_target(alloc, trial.texts, transcripts, sameness)
+        }
         None => Ok(None),
     }
 }
@@ -56,17 +63,18 @@ fn first_target(
     alloc: Global,
     texts: &[Bytes],
     transcripts: &[Transcript],
+    sameness: Sameness,
 ) -> Result<Option<Target>, AllocError>
     ensures { IfOk result (λ target.
         MatchOption target
         (All IsAsExpected (zip texts.now transcripts.now))
-        (IsFirstTarget (zip texts.now transcripts.now))) }
+        (IsFirstTarget sameness (zip texts.now transcripts.now))) }
 {
     for (thread, text) in texts.iter().enumerate() {
         let Some(transcript) = transcripts.get(thread) else {
             return Ok(None);
         };
-        let unmet = unmet_in(alloc, thread, text.as_slice(), transcript.rows())?;
+        let unmet = unmet_in(alloc, thread, text.as_slice(), transcript.rows(), sameness)?;
         if let Some(target) = unmet {
             return Ok(Some(target));
         }
@@ -80,11 +88,12 @@ fn unmet_in(
     thread: usize,
     text: &[u8],
     rows: &[Row],
+    sameness: Sameness,
 ) -> Result<Option<Target>, AllocError>
     ensures { IfOk result (λ target.
         MatchOption target
         (IsAsExpected (text.now, rows.now))
-        (IsUnmetIn thread (text.now, rows.now))) }
+        (IsUnmetIn sameness thread (text.now, rows.now))) }
 {
     // The text is a script, and its expectations are good: only memory can have run out.
     let Ok(script) = parse(alloc, text) else {
@@ -100,20 +109,11 @@ fn unmet_in(
         return Ok(None);
     };
     let unmet = &expectations[expectation];
-    Ok(Some(Target {
+    let came = Came::of(&rows[row].reply, sameness)?;
+    let place = Place {
         thread,
         call: unmet.call,
         line: unmet.line,
-        error: error_of(&rows[row].reply),
-    }))
-}
-
-// The error of a reply, if it is a failure.
-fn error_of(reply: &Reply) -> Option<Errno>
-    ensures { result ≡ error_of reply.now }
-{
-    match reply {
-        Reply::Fail(error) => Some(*error),
-        _ => None,
-    }
+    };
+    Ok(Some(Target { place, came }))
 }

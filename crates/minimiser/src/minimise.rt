@@ -1,32 +1,36 @@
-ghost use Rattle.std.specs.Prelude.{◌≡◌, ◌<◌, ◌↔◌, All, IfErr, IfOk, IsTrue, MatchOption, OnOk};
-ghost use Rattle.std.specs.Prelude.{false, true};
+ghost use Rattle.std.specs.Prelude.{◌≡◌, ◌<◌, ◌≤◌, ◌↔◌, All, IfErr, IfOk, IfSome, IsTrue};
+ghost use Rattle.std.specs.Prelude.{MatchOption, OnOk, false, true};
 ghost use Rattle.std.specs.Bool.{OnTrue};
 ghost use Rattle.explorer.specs.Subject.{subject};
 ghost use Rattle.minimiser.specs.Failing.{FailsIn, IsFault, IsMinimal, IsRefused};
-ghost use Rattle.minimiser.specs.Reductions.{is_kept, without};
-ghost use Rattle.minimiser.specs.Rounds.{size_of};
+ghost use Rattle.minimiser.specs.Scopes.{AreAll, AreAllowed, AreRemovals, IsAllowed, Stands};
+ghost use Rattle.minimiser.specs.Reductions.{after_all, is_kept, without};
+ghost use Rattle.minimiser.specs.Rounds.{delays_of, size_of};
 
 use crate::delays::delays;
 use crate::fault::MinimiseFault;
 use crate::finding::find_target;
 use crate::reduction::Reduction;
+use crate::scope::Scope;
 use crate::step::Removal;
 use crate::target::Target;
 use explorer::Trial;
 use std::alloc::{AllocError, Global};
 
-/// Takes lines and threads away from scripts, as long as they fail the same in their plain run:
-/// each delay, then each line of each thread from its last to its first, then each thread, and the
-/// lines and threads again, until none is left to take. What is kept is minimal by the contract: it
-/// fails the same, and no longer without any one of its lines or threads. The error is
+/// Takes lines and threads away from scripts, or delays alone, as long as they fail the same in
+/// their plain run. Threads, delays and lines go first in blocks, each of half of them, then of a
+/// quarter, and so on, and each delay that is left is made shorter; then one at a time, until none
+/// is left to take and no delay is left that may be halved. What is kept is minimal by the
+/// contract: it fails the same, and no longer without any one of what may be taken. The error is
 /// [`MinimiseFault::NotFailing`] where the scripts do not fail so to begin with.
 pub fn minimised(
     alloc: Global,
     trial: Trial<'_>,
-    target: Target,
+    target: &Target,
+    scope: Scope,
 ) -> Result<Reduction, MinimiseFault>
-    ensures ok { IfOk result (IsMinimal (subject trial.entry) target) }
-    ensures err { IfErr result (IsFault (subject trial.entry) target) }
+    ensures ok { IfOk result (IsMinimal scope (subject trial.entry) target.now) }
+    ensures err { IfErr result (IsFault (subject trial.entry) target.now) }
 {
     let mut kept = Reduction::all(alloc, trial.texts)?;
     let failing = fails(alloc, trial, target, &kept)?;
@@ -34,30 +38,281 @@ pub fn minimised(
         return Err(MinimiseFault::NotFailing);
     }
     let delays = delays(alloc, trial.texts)?;
-    take(alloc, trial, target, &mut kept, &delays)?;
+    take_first(alloc, trial, target, scope, &mut kept, &delays)?;
     loop {
-        let steps = kept.steps(alloc)?;
-        let taken = take(alloc, trial, target, &mut kept, &steps)?;
+        let steps = steps_of(alloc, trial, scope, &kept, &delays)?;
+        let taken = take(alloc, trial, target, scope, &mut kept, &steps)?;
         if !taken {
             return Ok(kept);
         }
     }
 }
 
+// Takes what goes in blocks, and makes what delays are left as short as they can be.
+fn take_first(
+    alloc: Global,
+    trial: Trial<'_>,
+    target: &Target,
+    scope: Scope,
+    kept: &mut Reduction,
+    delays: &[Removal],
+) -> Result<(), AllocError>
+    requires fails { FailsIn (subject trial) target.now kept.old }
+    requires stands { Stands scope (subject trial).texts kept.old }
+    requires delays { delays.now ≡ delays_of 0 (subject trial).texts }
+    ensures fails { OnOk result (FailsIn (subject trial.entry) target.now kept.new) }
+    ensures stands { OnOk result (Stands scope (subject trial.entry).texts kept.new) }
+{
+    take_in_blocks(alloc, trial, target, scope, kept, delays)?;
+    shorten_all(alloc, trial, target, scope, kept, delays)
+}
+
+// Takes what goes in blocks: threads, delays, then lines.
+fn take_in_blocks(
+    alloc: Global,
+    trial: Trial<'_>,
+    target: &Target,
+    scope: Scope,
+    kept: &mut Reduction,
+    delays: &[Removal],
+) -> Result<(), AllocError>
+    requires fails { FailsIn (subject trial) target.now kept.old }
+    requires stands { Stands scope (subject trial).texts kept.old }
+    requires delays { delays.now ≡ delays_of 0 (subject trial).texts }
+    ensures fails { OnOk result (FailsIn (subject trial.entry) target.now kept.new) }
+    ensures stands { OnOk result (Stands scope (subject trial.entry).texts kept.new) }
+{
+    match scope {
+        Scope::Everything => {
+            let threads = kept.thread_steps(alloc)?;
+            take_blocks(alloc, trial, target, scope, kept, &threads)?;
+            take_blocks(alloc, trial, target, scope, kept, delays)?;
+            let lines = kept.line_steps(alloc)?;
+            take_blocks(alloc, trial, target, scope, kept, &lines)
+        }
+        Scope::Schedule => take_blocks(alloc, trial, target, scope, kept, delays),
+    }
+}
+
+// Makes each of these delays that is kept as short as it can be.
+fn shorten_all(
+    alloc: Global,
+    trial: Trial<'_>,
+    target: &Target,
+    scope: Scope,
+    kept: &mut Reduction,
+    delays: &[Removal],
+) -> Result<(), AllocError>
+    requires fails { FailsIn (subject trial) target.now kept.old }
+    requires stands { Stands scope (subject trial).texts kept.old }
+    requires allowed { AreAllowed scope (subject trial).texts delays.now }
+    ensures fails { OnOk result (FailsIn (subject trial.entry) target.now kept.new) }
+    ensures stands { OnOk result (Stands scope (subject trial.entry).texts kept.new) }
+{
+    for delay in delays {
+        shorten(alloc, trial, target, scope, kept, *delay)?;
+    }
+    Ok(())
+}
+
+// Makes a delay that is kept as short as it can be, by halving of what it may be.
+fn shorten(
+    alloc: Global,
+    trial: Trial<'_>,
+    target: &Target,
+    scope: Scope,
+    kept: &mut Reduction,
+    delay: Removal,
+) -> Result<(), AllocError>
+    requires fails { FailsIn (subject trial) target.now kept.old }
+    requires stands { Stands scope (subject trial).texts kept.old }
+    requires allowed { IsAllowed scope (subject trial).texts delay }
+    ensures fails { OnOk result (FailsIn (subject trial.entry) target.now kept.new) }
+    ensures stands { OnOk result (Stands scope (subject trial.entry).texts kept.new) }
+{
+    let Removal::Line { thread, line } = delay else {
+        return Ok(());
+    };
+    let mut low = 0;
+    let mut high = kept.units(delay).unwrap_or(0);
+    while low < high {
+        let units = low + (high - low) / 2;
+        let step = Removal::Shorten {
+            thread,
+            line,
+            units,
+        };
+        if is_taken(alloc, trial, target, scope, kept, step)? {
+            high = units;
+        } else {
+            low = units + 1;
+        }
+    }
+    Ok(())
+}
+
+// Takes a step, if the failure is the same after it, and returns whether it was taken.
+fn is_taken(
+    alloc: Global,
+    trial: Trial<'_>,
+    target: &Target,
+    scope: Scope,
+    kept: &mut Reduction,
+    step: Removal,
+) -> Result<bool, AllocError>
+    requires fails { FailsIn (subject trial) target.now kept.old }
+    requires stands { Stands scope (subject trial).texts kept.old }
+    requires allowed { IsAllowed scope (subject trial).texts step }
+    ensures fails { OnOk result (FailsIn (subject trial.entry) target.now kept.new) }
+    ensures stands { OnOk result (Stands scope (subject trial.entry).texts kept.new) }
+{
+    match after(alloc, trial, target, kept, step)? {
+        Some(rest) => {
+            *kept = rest;
+            Ok(true)
+        }
+        None => Ok(false),
+    }
+}
+
+// The steps that may be taken, in the order in which they are tried: what is taken away, then what
+// leaves half of a delay.
+fn steps_of(
+    alloc: Global,
+    trial: Trial<'_>,
+    scope: Scope,
+    kept: &Reduction,
+    delays: &[Removal],
+) -> Result<Vec<Removal>, AllocError>
+    requires { delays.now ≡ delays_of 0 (subject trial).texts }
+    ensures allowed { IfOk result (λ steps.
+        AreAllowed scope (subject trial.entry).texts steps.items) }
+    ensures all { IfOk result (λ steps.
+        AreAll scope (subject trial.entry).texts kept.now steps.items) }
+{
+    let mut steps = removals_of(alloc, trial, scope, kept, delays)?;
+    let halves = kept.halves(alloc, delays)?;
+    steps.extend_from_slice(&halves)?;
+    Ok(steps)
+}
+
+// The steps that may take away a line or a thread.
+fn removals_of(
+    alloc: Global,
+    trial: Trial<'_>,
+    scope: Scope,
+    kept: &Reduction,
+    delays: &[Removal],
+) -> Result<Vec<Removal>, AllocError>
+    requires { delays.now ≡ delays_of 0 (subject trial).texts }
+    ensures allowed { IfOk result (λ steps.
+        AreAllowed scope (subject trial.entry).texts steps.items) }
+    ensures all { IfOk result (λ steps.
+        AreRemovals scope (subject trial.entry).texts kept.now steps.items) }
+{
+    match scope {
+        Scope::Everything => kept.steps(alloc),
+        Scope::Schedule => {
+            let steps = Vec::from_slice(alloc, delays)?;
+            Ok(steps)
+        }
+    }
+}
+
+// Takes blocks of these steps, each if the failure is the same after it: halves of them, then
+// quarters, and so on.
+fn take_blocks(
+    alloc: Global,
+    trial: Trial<'_>,
+    target: &Target,
+    scope: Scope,
+    kept: &mut Reduction,
+    steps: &[Removal],
+) -> Result<(), AllocError>
+    requires fails { FailsIn (subject trial) target.now kept.old }
+    requires stands { Stands scope (subject trial).texts kept.old }
+    requires allowed { AreAllowed scope (subject trial).texts steps.now }
+    ensures fails { OnOk result (FailsIn (subject trial.entry) target.now kept.new) }
+    ensures stands { OnOk result (Stands scope (subject trial.entry).texts kept.new) }
+{
+    let mut size = steps.len();
+    while size > 1 {
+        size -= size / 2;
+        take_blocks_of(alloc, trial, target, scope, kept, steps, size)?;
+    }
+    Ok(())
+}
+
+// Takes blocks of so many of these steps, one after another.
+fn take_blocks_of(
+    alloc: Global,
+    trial: Trial<'_>,
+    target: &Target,
+    scope: Scope,
+    kept: &mut Reduction,
+    steps: &[Removal],
+    size: usize,
+) -> Result<(), AllocError>
+    requires some { 0 < size }
+    requires fails { FailsIn (subject trial) target.now kept.old }
+    requires stands { Stands scope (subject trial).texts kept.old }
+    requires allowed { AreAllowed scope (subject trial).texts steps.now }
+    ensures fails { OnOk result (FailsIn (subject trial.entry) target.now kept.new) }
+    ensures stands { OnOk result (Stands scope (subject trial.entry).texts kept.new) }
+{
+    let mut from = 0;
+    while from < steps.len() {
+        let end = from + size.min(steps.len() - from);
+        let rest = after_block(alloc, trial, target, kept, &steps[from..end])?;
+        if let Some(rest) = rest {
+            *kept = rest;
+        }
+        from = end;
+    }
+    Ok(())
+}
+
+// What is kept after these steps together, if they take something away and the failure is the same
+// after them.
+fn after_block(
+    alloc: Global,
+    trial: Trial<'_>,
+    target: &Target,
+    kept: &Reduction,
+    block: &[Removal],
+) -> Result<Option<Reduction>, AllocError>
+    ensures { IfOk result (λ rest. IfSome rest (λ rest.
+        (rest ≡ after_all kept.now block.now)
+        × FailsIn (subject trial.entry) target.now rest)) }
+{
+    if !block.iter().any(|step| kept.has(*step)) {
+        return Ok(None);
+    }
+    let less = kept.after_all(alloc, block)?;
+    if !fails(alloc, trial, target, &less)? {
+        return Ok(None);
+    }
+    Ok(Some(less))
+}
+
 // Takes these steps, each if the failure is the same after it, and returns whether one was taken.
 fn take(
     alloc: Global,
     trial: Trial<'_>,
-    target: Target,
+    target: &Target,
+    scope: Scope,
     kept: &mut Reduction,
     steps: &[Removal],
 ) -> Result<bool, AllocError>
-    requires { FailsIn (subject trial) target kept.old }
-    ensures fails { OnOk result (FailsIn (subject trial.entry) target kept.new) }
+    requires fails { FailsIn (subject trial) target.now kept.old }
+    requires stands { Stands scope (subject trial).texts kept.old }
+    requires allowed { AreAllowed scope (subject trial).texts steps.now }
+    ensures fails { OnOk result (FailsIn (subject trial.entry) target.now kept.new) }
+    ensures stands { OnOk result (Stands scope (subject trial.entry).texts kept.new) }
     ensures some { IfOk result (λ taken. OnTrue taken (size_of kept.new < size_of kept.old)) }
     ensures none { IfOk result (λ taken. taken ≡ false
         → (kept.new ≡ kept.old)
-        × All (IsRefused (subject trial.entry) target kept.old) steps.now) }
+        × All (IsRefused (subject trial.entry) target.now kept.old) steps.now) }
 {
     let mut taken = false;
     for step in steps {
@@ -74,15 +329,15 @@ fn take(
 fn after(
     alloc: Global,
     trial: Trial<'_>,
-    target: Target,
+    target: &Target,
     kept: &Reduction,
     step: Removal,
 ) -> Result<Option<Reduction>, AllocError>
     ensures { IfOk result (λ rest.
         MatchOption rest
-        (IsRefused (subject trial.entry) target kept.now step)
+        (IsRefused (subject trial.entry) target.now kept.now step)
         (λ rest. (is_kept kept.now step ≡ true) × (rest ≡ without kept.now step)
-        × FailsIn (subject trial.entry) target rest)) }
+        × FailsIn (subject trial.entry) target.now rest)) }
 {
     if !kept.has(step) {
         return Ok(None);
@@ -98,13 +353,13 @@ fn after(
 fn fails(
     alloc: Global,
     trial: Trial<'_>,
-    target: Target,
+    target: &Target,
     kept: &Reduction,
 ) -> Result<bool, AllocError>
     ensures { IfOk result (λ fails.
-        IsTrue fails ↔ FailsIn (subject trial.entry) target kept.now) }
+        IsTrue fails ↔ FailsIn (subject trial.entry) target.now kept.now) }
 {
-    let Some(target) = kept.target(target) else {
+    let Some(place) = kept.place(target.place) else {
         return Ok(false);
     };
     let texts = kept.texts(alloc, trial.texts)?;
@@ -114,8 +369,8 @@ fn fails(
         outcomes: &outcomes,
         settings: trial.settings,
     };
-    match find_target(alloc, rest)? {
-        Some(found) => Ok(found.is_same(target)),
+    match find_target(alloc, rest, target.came.sameness())? {
+        Some(found) => Ok(found.is(place, &target.came)),
         None => Ok(false),
     }
 }

@@ -22,12 +22,12 @@ returns-in-Some c =
     } in
     let run : IsRunOf given seen = search rules in
     let first : IfOk c.first_target.result (λ (found : Option Target).
-    MatchOption found (All IsAsExpected threads) (IsFirstTarget threads)) = search rules in
+    MatchOption found (All IsAsExpected threads) (IsFirstTarget c.args.sameness threads)) = search rules in
     IfOk-weaker c.first_target.result (λ (found : Option Target).
-    MatchOption found (All IsAsExpected threads) (IsFirstTarget threads))
-    (λ (found : Option Target). (target : Target) → (found ≡ Some target) ↔ Fails given target)
-    (found_in laws given seen run) first
+    MatchOption found (All IsAsExpected threads) (IsFirstTarget c.args.sameness threads))
+    (λ (found : Option Target). (target : Target) → (found ≡ Some target) ↔ Fails c.args.sameness given target)
+    (found_in laws c.args.sameness given seen run) first
 
 pub returns-in-None : goal.returns-in-None
 returns-in-None c =
-    none_run (subject c.args.trial) (rw c.in-None.is at c.in_ok-observation.ensures)
+    none_run c.args.sameness (subject c.args.trial) (rw c.in-None.is at c.in_ok-observation.ensures)

@@ -1,7 +1,7 @@
-use Rattle.std.proofs.Common.{◌<◌, Option, ap, arith, length, map, refl, rules}
+use Rattle.std.proofs.Common.{◌<◌, ap, arith, length, map, refl, rules}
 use Rattle.std.proofs.lemmas.Option.{slice_get_within}
-use Rattle.posix_terms.specs.declared.errno.Errno.{Errno}
 use Rattle.expectations.specs.Places.{calls_of}
+use Rattle.minimiser.specs.declared.target.Came.{Came}
 use Rattle.minimiser.specs.declared.target.Target.{Target}
 use Rattle.minimiser.proofs.Threads.{row_within, unmet_here}
 use Rattle.minimiser.proofs.finding.unmet_in.Goals as goal
@@ -44,16 +44,18 @@ offset_bounds-rows-row c =
 pub returns : goal.returns
 returns c =
     let first = rw (c.in-Some.is, c.deref.ensures.value) at c.in-Ok-first_unmet.ensures in
-    let error = rw (← c.index-rows-row.is) at c.error_of.ensures in
+    let came = rw (← c.index-rows-row.is) at c.in_ok-came.ensures in
     let expectation = c.index-unmet.result.now in
-    let made : Option Errno → Target = λ (error : Option Errno). record {
-      thread = c.args.thread;
-      call = expectation.call;
-      line = expectation.line;
-      error = error;
+    let made : Came → Target = λ (came : Came). record {
+      place = record {
+        thread = c.args.thread;
+        call = expectation.call;
+        line = expectation.line;
+      };
+      came = came;
     } in
-    unmet_here c.args.thread c.args.text.now c.args.rows.now c.in-Ok.script
+    unmet_here c.args.sameness c.args.thread c.args.text.now c.args.rows.now c.in-Ok.script
     c.in-Ok-expectations_of.expectations.items c.in-Some.field-0 expectation
-    c.index-rows-row.result (made c.error_of.result) c.in-Ok.ensures
+    c.index-rows-row.result (made c.in_ok-came.came) c.in-Ok.ensures
     c.in-Ok-expectations_of.ensures.ok first c.index-unmet.ensures c.index-rows-row.is
-    (ap made error)
+    (ap made came)

@@ -1,11 +1,15 @@
 use Rattle.explorer.specs.Subject.{subject}
 use Rattle.minimiser.specs.Failing.{FailsIn}
 use Rattle.minimiser.specs.Rounds.{size_of}
+use Rattle.minimiser.specs.Scopes.{Stands}
 use Rattle.minimiser.proofs.minimise.minimised.Given as goal
 
--- the expectation fails in what is kept
+-- the expectation fails in what is kept, and what may not be taken away stands
 abbrev pub invariant-loop-delays : goal.invariant-loop-delays
-invariant-loop-delays l = FailsIn (subject l.trial) l.target l.kept
+invariant-loop-delays l = record {
+  fails : FailsIn (subject l.trial) l.target l.kept;
+  stands : Stands l.fn.scope (subject l.trial).texts l.kept;
+}
 
 -- less is kept after each round
 abbrev pub decreases-loop-delays : goal.decreases-loop-delays
