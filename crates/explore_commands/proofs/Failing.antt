@@ -1,17 +1,18 @@
--- What is found of cases, one after the other, and how many failed.
+-- What is found of cases, one after the other, and how many are counted.
 use Rattle.std.proofs.Common.{◌≡◌, ◌≤◌, ◌<◌, ◌+◌, ℕ, suc, Bool, true, false, List, [], ◌∷◌, ◌++◌, Option}
 use Rattle.std.proofs.Common.{Err, Ok, Result, ap, append_assoc, arith, get_or, length, subst, sym}
 use Rattle.std.proofs.lemmas.List.{append-nil, length-append}
 use Rattle.std.proofs.lemmas.List.Sums.{sum_by-cons}
 use Rattle.std.specs.List.{AllZip}
-use Rattle.std.specs.Option.{is_some}
 use Rattle.std.specs.Prelude.{IfOk, if◌then◌else◌}
 use Rattle.std.specs.declared.alloc.AllocError.{AllocError}
 use Rattle.explorer.specs.Subject.{Subject}
 use Rattle.explorer.specs.declared.observation.Observation.{Observation}
 use Rattle.fault_injection.specs.declared.cases.FaultCase.{FaultCase}
 use Rattle.fault_injection.specs.declared.filling.Filling.{Filling}
-use Rattle.explore_texts.specs.Found.{failed_of}
+use Rattle.explore_texts.specs.Found.{counted, tallied}
+use Rattle.explore_texts.specs.Judged.{is_counted}
+use Rattle.explore_texts.specs.declared.judgement.Tally.{Tally}
 use Rattle.explore_commands.specs.Injections.{IsCaseFinding}
 use Rattle.explore_commands.specs.Pushed.{ArePushed}
 use Rattle.explore_texts.specs.declared.finding.Finding.{Finding}
@@ -28,20 +29,20 @@ at_most : (b : Bool) (n : ℕ) → (if b then n else 0) ≤ n
 at_most true n = omega arith
 at_most false n = omega arith
 
--- no more cases failed than there are
+-- no more cases are counted than there are
 pub cases_below : (filling : Option Filling) (subject : Subject) (before : Observation)
     (cases : List FaultCase) (findings : List Finding)
     → AllZip (IsCaseFinding filling subject before) cases findings
-    → failed_of findings ≤ length findings
-cases_below filling subject before [] [] all = omega arith
-cases_below filling subject before [] (finding ∷ findings) all = elim all [ ]
-cases_below filling subject before (case ∷ cases) [] all = elim all [ ]
-cases_below filling subject before (case ∷ cases) (finding ∷ findings) all =
-    let failed = sum_by-cons (λ (f : Finding). f.failed) finding findings in
+    → (tally : Tally) → tallied tally findings ≤ length findings
+cases_below filling subject before [] [] all tally = omega arith
+cases_below filling subject before [] (finding ∷ findings) all tally = elim all [ ]
+cases_below filling subject before (case ∷ cases) [] all tally = elim all [ ]
+cases_below filling subject before (case ∷ cases) (finding ∷ findings) all tally =
+    let some = sum_by-cons (counted tally) finding findings in
     let found = all.0.2 in
-    let here = at_most (is_some found.unmet) 1 in
-    let rest = cases_below filling subject before cases findings all.1 in
-    omega (arith, failed, found.failed, here, rest)
+    let here = at_most (is_counted tally finding.judgement) finding.runs in
+    let rest = cases_below filling subject before cases findings all.1 tally in
+    omega (arith, some, found.count, here, rest)
 
 -- those that were found next are of the next cases
 pub pairs_pushed : (R : FaultCase → Finding → Type 0) (next : List FaultCase)

@@ -1,6 +1,7 @@
 -- Believed: a contract of a command stands on it.
 -- What `detio explore` prints for the scripts that it reads.
-use Rattle.std.specs.Prelude.{◌≡◌, ◌⊎◌, ℕ, ◌-◌, List, [], Option, codes}
+use Rattle.std.specs.Prelude.{◌≡◌, ◌⊎◌, ℕ, ◌-◌, ◌&&◌, not, Bool, true, false, List, []}
+use Rattle.std.specs.Prelude.{Option, Some, is_some, codes}
 use Rattle.std.specs.Fmt.{decimal}
 use Rattle.std.specs.List.{AllZip, range_with_len}
 use Rattle.posix_terms.specs.declared.transcript.Settings.{Settings}
@@ -15,8 +16,9 @@ use Rattle.explorer.specs.declared.observation.Observation.{Observation}
 use Rattle.command_texts.specs.Printing.{fault_printed, needs_scripts, script_fault}
 use Rattle.command_texts.specs.Transcripts.{◌+++◌}
 use Rattle.command_texts.specs.declared.printed.Printed.{Printed}
-use Rattle.explore_texts.specs.CutOffs.{cut_of}
-use Rattle.explore_texts.specs.Found.{IsFinding, IsUnmetIn, explored_printed}
+use Rattle.machine.specs.declared.stop.Stop.{Stop}
+use Rattle.machine.specs.declared.stop.Stop.TheVariants as stop
+use Rattle.explore_texts.specs.Found.{IsFinding, IsFoundAsIs, explored_printed}
 use Rattle.explore_texts.specs.Schedules.{delays_by, end_by}
 use Rattle.command_inputs.specs.Faults.{bad_settings}
 use Rattle.explore_commands.specs.declared.explore.ExploreOptions.{ExploreOptions}
@@ -49,6 +51,16 @@ FaultPrints fault.Threads printed = printed ≡ needs_scripts
 FaultPrints fault.Settings printed = printed ≡ bad_settings
 FaultPrints fault.Memory printed = ⊥
 
+-- nothing comes from outside, and no log is given
+abbrev pub no_log : Printed
+no_log = fault_printed 2
+    (codes "the scripts go outside, and nothing comes from there: give --log, a log of record\n")
+
+-- a run stopped where a thread went outside, and nothing came
+abbrev pub goes_outside : Option Stop → Bool
+goes_outside (Some (stop.EndOfLog thread)) = true
+goes_outside other = false
+
 -- ## The command
 
 -- the cases that are asked for and are there
@@ -60,15 +72,15 @@ cases_of options schedule =
 pub record IsExplored
     (subject : Subject) (options : ExploreOptions) (schedule : Schedule) (before : Observation)
     (printed : Printed) : Type 0 where
-  pub unmet : Option (List ℕ)
-  pub expected : IsUnmetIn subject.texts before unmet
+  pub as_is : Finding
+  pub found_as_is : IsFoundAsIs subject.texts before as_is
   pub groups : List Group
   pub explores :
       CasesJoin subject (delays_by schedule) [] (cases_of options schedule) groups
   pub findings : List Finding
   pub found : AllZip (IsFinding subject schedule before) groups findings
   pub says : printed
-      ≡ explored_printed schedule before (cut_of subject.texts before) unmet groups findings
+      ≡ explored_printed options.shown schedule as_is groups findings
 
 -- this is printed of the runs with delays, where this was seen in the run without them
 abbrev pub SeenExplores : Subject → ExploreOptions → Schedule → Observation → Printed → Type 0
@@ -78,31 +90,39 @@ SeenExplores subject options schedule before printed =
     × IsFaultOf subject (delays_by schedule) options.first (end_by schedule options.end) why
     × FaultPrints why printed)
 
--- what is printed: of the runs with delays, or why there was none without
-abbrev pub SubjectExplores : Subject → ExploreOptions → Schedule → Printed → Type 0
-SubjectExplores subject options schedule printed =
+-- what is printed where that run, without a log, went outside or not
+abbrev pub OutsideExplores :
+    Bool → Subject → ExploreOptions → Schedule → Observation → Printed → Type 0
+OutsideExplores true subject options schedule before printed = printed ≡ no_log
+OutsideExplores false subject options schedule before printed =
+    SeenExplores subject options schedule before printed
+
+-- what is printed: of the runs with delays, or why there was none without. No log is given, or one
+-- is
+abbrev pub SubjectExplores : Bool → Subject → ExploreOptions → Schedule → Printed → Type 0
+SubjectExplores alone subject options schedule printed =
     ((before : Observation) × Sees subject before
-    × SeenExplores subject options schedule before printed)
+    × OutsideExplores (alone && goes_outside before.stop) subject options schedule before printed)
     ⊎ ((why : RunFault) × IsFault subject why × FaultPrints why printed)
 
 -- with these delays, or where there are none
-abbrev pub ScheduleExplores : Subject → ExploreOptions → ToSchedule → Printed → Type 0
-ScheduleExplores subject options (delays.Delays schedule) printed =
-    SubjectExplores subject options schedule printed
-ScheduleExplores subject options (delays.Fault fault) printed = printed ≡ fault
+abbrev pub ScheduleExplores : Bool → Subject → ExploreOptions → ToSchedule → Printed → Type 0
+ScheduleExplores alone subject options (delays.Delays schedule) printed =
+    SubjectExplores alone subject options schedule printed
+ScheduleExplores alone subject options (delays.Fault fault) printed = printed ≡ fault
 
 -- what is printed of a subject that is explored with the delays of these options
-abbrev pub TrialExplores : ExploreOptions → Subject → Printed → Type 0
-TrialExplores options subject printed =
+abbrev pub TrialExplores : Bool → ExploreOptions → Subject → Printed → Type 0
+TrialExplores alone options subject printed =
     (made : ToSchedule) × AreScheduled options subject.texts made
-    × ScheduleExplores subject options made printed
+    × ScheduleExplores alone subject options made printed
 
 -- what is printed for what is to be tried
-abbrev pub TryExplores : ExploreOptions → ToTry → Printed → Type 0
-TryExplores options (tries.Texts texts outcomes settings) printed =
-    TrialExplores options
+abbrev pub TryExplores : Bool → ExploreOptions → ToTry → Printed → Type 0
+TryExplores alone options (tries.Texts texts outcomes settings) printed =
+    TrialExplores alone options
     (record { texts = texts.items; outcomes = outcomes.items; settings = settings }) printed
-TryExplores options (tries.Fault fault) printed = printed ≡ fault
+TryExplores alone options (tries.Fault fault) printed = printed ≡ fault
 
 -- What `detio explore` prints for these sources, and for that of a log, if one is given. Of its
 -- faults those of what is read come first, then those of the delays, the settings, a script without
@@ -110,4 +130,5 @@ TryExplores options (tries.Fault fault) printed = printed ≡ fault
 abbrev pub ExplorePrints : Settings → ExploreOptions → Option (List ℕ × Option (List ℕ))
     → List (List ℕ × Option (List ℕ)) → Printed → Type 0
 ExplorePrints settings options log sources printed =
-    (try : ToTry) × Tries settings log sources try × TryExplores options try printed
+    (try : ToTry) × Tries settings log sources try
+    × TryExplores (not (is_some log)) options try printed

@@ -17,7 +17,7 @@ use Rattle.fault_injection.specs.declared.filling.Filling.{Filling}
 use Rattle.command_texts.specs.declared.printed.Printed.{Printed}
 use Rattle.explore_texts.specs.CaseTexts.{case_text, cases_printed}
 use Rattle.explore_texts.specs.CutOffs.{cut_of}
-use Rattle.explore_texts.specs.Found.{IsFound, IsUnmetIn}
+use Rattle.explore_texts.specs.Found.{IsFound, IsFoundAsIs}
 use Rattle.explore_commands.specs.Explores.{FaultPrints}
 use Rattle.explore_commands.specs.Tries.{ByLogTries}
 use Rattle.explore_commands.specs.declared.faults.FaultOptions.{FaultOptions}
@@ -52,13 +52,12 @@ IsCaseFinding filling subject before case finding =
 pub record AreTried
     (options : FaultOptions) (subject : Subject) (before : Observation) (printed : Printed)
     : Type 0 where
-  pub unmet : Option (List ℕ)
-  pub expected : IsUnmetIn subject.texts before unmet
+  pub as_is : Finding
+  pub found_as_is : IsFoundAsIs subject.texts before as_is
   pub findings : List Finding
   pub found : AllZip (IsCaseFinding options.filling subject before)
       (fault_cases options.choice subject.outcomes) findings
-  pub says : printed
-      ≡ cases_printed before (cut_of subject.texts before) unmet findings
+  pub says : printed ≡ cases_printed options.shown as_is findings
 
 -- what is printed: of the cases, or why there was no run by the log as it is
 abbrev pub SubjectInjects : FaultOptions → Subject → Printed → Type 0

@@ -1,14 +1,17 @@
 ghost use Rattle.std.specs.Prelude.{◌≡◌, IfOk, map, option_map};
 ghost use Rattle.command_texts.specs.Printing.{Prints};
 ghost use Rattle.explore_commands.specs.Explores.{ExplorePrints, FaultPrints, SeenExplores};
-ghost use Rattle.explore_commands.specs.Explores.{SubjectExplores, TrialExplores, no_room};
+ghost use Rattle.explore_commands.specs.Explores.{SubjectExplores, TrialExplores, goes_outside};
+ghost use Rattle.explore_commands.specs.Explores.{no_log};
+ghost use Rattle.explore_commands.specs.Explores.{no_room};
 ghost use Rattle.explorer.specs.Subject.{subject};
 
 use crate::scheduling::{ToSchedule, to_schedule};
 use crate::trying::{ToTry, to_try};
+use call_machine::Stop;
 use command_inputs::{bad_settings, needs_scripts};
 use command_texts::{Printed, Source, TextReader, bad_line, fault, no_memory, print};
-use explore_texts::{Schedule, Schedules, cut_of, explored_printed, findings, unmet_in};
+use explore_texts::{Schedule, Schedules, Shown, explored_printed, findings, found_as_is};
 use explorer::{Observation, ReportsProgress, RunFault, Trial, Workers};
 use posix_terms::Settings;
 use std::alloc::{AllocError, Global};
@@ -26,6 +29,8 @@ pub struct ExploreOptions {
     pub end: u64,
     /// How long a call is delayed at most, 0 to 1,000,000 units of its thread's clock.
     pub reach: u32,
+    /// Which lines are printed, and what is a fault.
+    pub shown: Shown,
 }
 
 /// `detio explore`: runs the scripts on the plain schedule, as they are and once for each seed, or
@@ -33,8 +38,10 @@ pub struct ExploreOptions {
 /// outcomes come in their order, at whatever turns, and its settings count. It prints how the run
 /// without delays ended, a line for each group of runs in which the threads saw the same and that
 /// ended alike, in the order of their first cases, and a line of sums; or one line for the first
-/// fault. It returns the exit status. The replies are held to what the texts expect: where one is
-/// not so in some run, the status is 1. Where there is no memory, a file cannot be read or the
+/// fault: without a log that is also that the run without delays stops where it goes outside. It
+/// returns the exit status, 1 where a [`Judgement`](explore_texts::Judgement) of a run is a fault:
+/// a reply is not as the texts expect, or, unless that is allowed, the run stopped or its calls
+/// were blocked for good. Where there is no memory, a file cannot be read or the
 /// output cannot be written, that is the fault. `progress` is called after each batch of
 /// [`Workers::at_a_time`] runs, and once before anything is printed. An error is one of the writer
 /// `errors`.
@@ -86,6 +93,7 @@ fn explore_printed<T: Threads + Sync, R: TextReader + Drop, P: ReportsProgress>(
         (option_map (λ s. (s.path.now, R.remaining s.reader)) log.entry)
         (map (λ s. (s.path.now, R.remaining s.reader)) sources.entry.items)) }
 {
+    let alone = log.is_none();
     match to_try(alloc, settings, log, sources)? {
         ToTry::Texts(texts, outcomes, settings) => {
             let trial = Trial {
@@ -93,25 +101,26 @@ fn explore_printed<T: Threads + Sync, R: TextReader + Drop, P: ReportsProgress>(
                 outcomes: &outcomes,
                 settings,
             };
-            trial_explored(workers, alloc, trial, options, progress)
+            trial_explored(workers, alloc, alone, trial, options, progress)
         }
         ToTry::Fault(printed) => Ok(printed),
     }
 }
 
-// What is to be printed for a trial.
+// What is to be printed for a trial, alone or by a log.
 fn trial_explored<T: Threads + Sync, P: ReportsProgress>(
     workers: &Workers<'_, T>,
     alloc: Global,
+    alone: bool,
     trial: Trial<'_>,
     options: ExploreOptions,
     progress: &mut P,
 ) -> Result<Printed, AllocError>
-    ensures { IfOk result (TrialExplores options (subject trial.entry)) }
+    ensures { IfOk result (TrialExplores alone options (subject trial.entry)) }
 {
     match to_schedule(alloc, options, trial.texts)? {
         ToSchedule::Delays(schedule) => {
-            scheduled_explored(workers, alloc, trial, options, &schedule, progress)
+            scheduled_explored(workers, alloc, alone, trial, options, &schedule, progress)
         }
         ToSchedule::Fault(printed) => Ok(printed),
     }
@@ -121,17 +130,36 @@ fn trial_explored<T: Threads + Sync, P: ReportsProgress>(
 fn scheduled_explored<T: Threads + Sync, P: ReportsProgress>(
     workers: &Workers<'_, T>,
     alloc: Global,
+    alone: bool,
     trial: Trial<'_>,
     options: ExploreOptions,
     schedule: &Schedule,
     progress: &mut P,
 ) -> Result<Printed, AllocError>
-    ensures { IfOk result (SubjectExplores (subject trial.entry) options schedule.now) }
+    ensures { IfOk result (SubjectExplores alone (subject trial.entry) options schedule.now) }
 {
     match trial.observe(alloc) {
+        Ok(before) if alone && goes_outside(before.stop) => no_log(alloc),
         Ok(before) => seen_explored(workers, alloc, trial, options, schedule, &before, progress),
         Err(fault) => fault_printed(alloc, fault),
     }
+}
+
+// Whether a run stopped where a thread went outside, and nothing came.
+fn goes_outside(stop: Option<Stop>) -> bool
+    ensures { result ≡ goes_outside stop }
+{
+    matches!(stop, Some(Stop::EndOfLog(_)))
+}
+
+fn no_log(alloc: Global) -> Result<Printed, AllocError>
+    ensures { IfOk result (λ printed. printed ≡ no_log) }
+{
+    fault(
+        alloc,
+        2,
+        "the scripts go outside, and nothing comes from there: give --log, a log of record\n",
+    )
 }
 
 // What is to be printed where this was seen in the run without delays.
@@ -152,15 +180,13 @@ fn seen_explored<T: Threads + Sync, P: ReportsProgress>(
         Ok(groups) => groups,
         Err(fault) => return fault_printed(alloc, fault),
     };
-    let cut = cut_of(alloc, trial.texts, before)?;
-    let unmet = unmet_in(alloc, trial.texts, before)?;
+    let as_is = found_as_is(alloc, trial.texts, before)?;
     let findings = findings(alloc, trial, schedule, before, groups.as_slice())?;
     explored_printed(
         alloc,
+        options.shown,
         schedule,
-        before,
-        &cut,
-        &unmet,
+        &as_is,
         groups.as_slice(),
         &findings,
     )

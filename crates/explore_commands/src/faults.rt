@@ -14,7 +14,7 @@ use crate::explore::fault_printed;
 use crate::trying::{ToTry, to_try_by_log};
 use call_machine::Plain;
 use command_texts::{Printed, Source, TextReader, no_memory, print};
-use explore_texts::{Finding, cases_printed, cut_of, found, push_case, unmet_in};
+use explore_texts::{Finding, Shown, cases_printed, cut_of, found, found_as_is, push_case};
 use explorer::{Observation, ReportsProgress, RunFault, Trial, Workers};
 use fault_injection::{Choice, FaultCase, Filling, fault_cases, run_fault, run_filled};
 use std::alloc::{AllocError, Global};
@@ -33,13 +33,16 @@ pub struct FaultOptions<'a> {
     /// What comes where a thread asks for an outcome that the log does not have, or has none that
     /// answers, [`MOST_FILLED`] times at most; nothing: the run stops there.
     pub filling: Option<Filling>,
+    /// Which lines are printed, and what is a fault.
+    pub shown: Shown,
 }
 
 /// `detio faults`: runs the scripts on the plain schedule by the outcomes of a log, at whatever
 /// turns: as they are, and once for each case, with one outcome replaced. It prints how the run by
 /// the outcomes as they are ended, a line for each case, and a line of sums; or one line for the
-/// first fault. It returns the exit status. The replies are held to what the texts expect: where
-/// one is not so in some run, the status is 1. Where there is no memory, a file cannot be read or
+/// first fault. It returns the exit status, 1 where a [`Judgement`](explore_texts::Judgement) of a
+/// run is a fault: a reply is not as the texts expect, or, unless that is allowed, the run stopped
+/// or its calls were blocked for good. Where there is no memory, a file cannot be read or
 /// the output cannot be written, that is the fault. `progress` is called after each batch of
 /// [`Workers::at_a_time`] cases, and once before anything is printed. An error is one of the writer
 /// `errors`.
@@ -123,8 +126,7 @@ fn seen_tried<T: Threads + Sync, P: ReportsProgress>(
 ) -> Result<Printed, AllocError>
     ensures { IfOk result (AreTried options.entry (subject trial.entry) before.now) }
 {
-    let cut = cut_of(alloc, trial.texts, before)?;
-    let unmet = unmet_in(alloc, trial.texts, before)?;
+    let as_is = found_as_is(alloc, trial.texts, before)?;
     let cases = fault_cases(alloc, trial.outcomes, options.choice)?;
     let findings = cases_found(
         workers,
@@ -135,7 +137,7 @@ fn seen_tried<T: Threads + Sync, P: ReportsProgress>(
         &cases,
         progress,
     )?;
-    cases_printed(alloc, before, &cut, &unmet, &findings)
+    cases_printed(alloc, options.shown, &as_is, &findings)
 }
 
 // What is found of cases, in order.

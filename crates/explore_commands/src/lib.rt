@@ -24,8 +24,9 @@ mod writing;
 
 pub use case_log::to_write_case;
 pub use explore::{ExploreOptions, explore_over};
-pub use explore_texts::Schedules;
+pub use explore_texts::{Allowed, Schedules, Shown};
 pub use explorer::{ReportsProgress, Workers};
 pub use faults::{FaultOptions, MOST_FILLED, faults_over};
-pub use minimise::to_minimise;
+pub use minimise::{MinimiseOptions, to_minimise};
+pub use minimiser::{Sameness, Scope};
 pub use writing::{ScriptsToWrite, to_write};

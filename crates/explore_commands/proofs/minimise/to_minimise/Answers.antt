@@ -10,7 +10,7 @@ returns-in-Texts g c =
     let texts = c.in-Texts.texts in
     let outcomes = c.in-Texts.outcomes in
     let settings = c.in-Texts.settings in
-    let shows = λ (subject : Subject). SubjectMinimises subject in
+    let shows = λ (subject : Subject). SubjectMinimises c.args.options subject in
     IfOk-weaker c.trial_minimised.result _ _
     (λ made says.
     (tries.Texts texts outcomes settings, rw c.in-Texts.is at c.in_ok-texts.ensures, says))
