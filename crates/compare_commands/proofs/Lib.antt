@@ -1,1 +1,2 @@
 pub mod RowsBefore
+pub mod ExactVerdicts

@@ -13,6 +13,7 @@ use Rattle.command_texts.specs.Printing.{cannot_read, needs_scripts}
 use Rattle.command_texts.specs.Reading.{AreRead, IsText, IsUnreadable, scripts_from}
 use Rattle.command_texts.specs.declared.printed.Printed.{Printed}
 use Rattle.compare_commands.specs.Differences.{rows_printed, verdict_printed}
+use Rattle.compare_commands.specs.Json.{rows_json, verdict_json}
 use Rattle.commands.specs.Tells.{ScriptsTell}
 use Rattle.compare_commands.specs.declared.compare.CompareOptions.{CompareOptions}
 use Rattle.commands.specs.declared.told.Told.{Told}
@@ -20,11 +21,25 @@ use Rattle.commands.specs.declared.told.Told.TheVariants as tells
 
 -- what is printed for a verdict on what two replays saw, and how they ended: the verdict alone, or
 -- with `rows` the rows and the ends too
+abbrev pub plain_verdict : CompareOptions → List (List Row) → Option Stop → List (List Row)
+    → Option Stop → Verdict → Printed
+plain_verdict options seen stop others other_stop verdict =
+    if options.rows then rows_printed options.turns seen stop others other_stop verdict
+    else verdict_printed verdict
+
+-- the same in JSON
+abbrev pub json_verdict : CompareOptions → List (List Row) → Option Stop → List (List Row)
+    → Option Stop → Verdict → Printed
+json_verdict options seen stop others other_stop verdict =
+    if options.rows then rows_json options.turns seen stop others other_stop verdict
+    else verdict_json verdict
+
+-- in one form or the other
 abbrev pub verdict_printed_by : CompareOptions → List (List Row) → Option Stop → List (List Row)
     → Option Stop → Verdict → Printed
 verdict_printed_by options seen stop others other_stop verdict =
-    if options.rows then rows_printed options.turns seen stop others other_stop verdict
-    else verdict_printed verdict
+    if options.json then json_verdict options seen stop others other_stop verdict
+    else plain_verdict options seen stop others other_stop verdict
 
 -- what is printed for what was seen by the first log and how that ended, and what is reported of
 -- the second

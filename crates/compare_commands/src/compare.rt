@@ -6,6 +6,7 @@ ghost use Rattle.compare_commands.specs.Compares.{LogsCompare, ScriptsCompare, S
 ghost use Rattle.commands.specs.declared.told.Told.TheVariants as tells;
 
 use crate::differences::{rows_printed, verdict_printed};
+use crate::json_differences::{rows_json, verdict_json};
 use call_machine::Stop;
 use command_inputs::needs_scripts;
 use command_texts::{
@@ -27,6 +28,8 @@ pub struct CompareOptions {
     pub rows: bool,
     /// Whether the turns of rows count. Where they do, the rows are printed with their clocks.
     pub turns: bool,
+    /// Whether each line that is printed is an object of JSON.
+    pub json: bool,
 }
 
 impl Default for CompareOptions {
@@ -34,16 +37,17 @@ impl Default for CompareOptions {
         CompareOptions {
             rows: false,
             turns: true,
+            json: false,
         }
     }
 }
 
 /// `detio compare`: replays two logs, each with the scripts, and prints `same` where their threads
 /// saw the same, or else `differs` with the first thread and the first of its rows that differ,
-/// counted from 0, with the rows themselves and how each replay ended if that is asked; or one line
-/// for the first fault; the answer is the exit status. A replay that stopped is compared as far as
-/// it came. Where there is no memory, a file cannot be read or the output cannot be written, that
-/// is the fault. An error is one of the writer `errors`.
+/// counted from 0, with the rows themselves and how each replay ended if that is asked, and all of
+/// that in JSON if it is; or one line for the first fault; the answer is the exit status. A replay
+/// that stopped is compared as far as it came. Where there is no memory, a file cannot be read or
+/// the output cannot be written, that is the fault. An error is one of the writer `errors`.
 pub fn compare_over<R: TextReader + Drop, W: Write, E: Write>(
     alloc: Global,
     options: CompareOptions,
@@ -182,17 +186,12 @@ fn run_compared(
     ensures { IfOk result (
         BothPrint options seen.now stop (tells.Run others.now other_stop)) }
 {
-    let verdict = compare_by(options.turns, seen, others);
-    if !options.rows {
-        return verdict_printed(alloc, verdict);
+    let CompareOptions { rows, turns, json } = options;
+    let verdict = compare_by(turns, seen, others);
+    match (rows, json) {
+        (false, false) => verdict_printed(alloc, verdict),
+        (false, true) => verdict_json(alloc, verdict),
+        (true, false) => rows_printed(alloc, turns, seen, stop, others, other_stop, verdict),
+        (true, true) => rows_json(alloc, turns, seen, stop, others, other_stop, verdict),
     }
-    rows_printed(
-        alloc,
-        options.turns,
-        seen,
-        stop,
-        others,
-        other_stop,
-        verdict,
-    )
 }

@@ -14,7 +14,7 @@ use run_views::push_call_row;
 use std::alloc::{AllocError, Global};
 
 // How many rows are printed at most before the one that differs.
-const ROWS_BEFORE: usize = 3;
+pub(crate) const ROWS_BEFORE: usize = 3;
 
 // What is to be printed for a verdict alone.
 pub fn verdict_printed(alloc: Global, verdict: Verdict) -> Result<Printed, AllocError>
@@ -63,7 +63,7 @@ fn verdict_line(alloc: Global, verdict: Verdict) -> Result<String, AllocError>
 }
 
 // The exit status of a verdict.
-fn verdict_status(verdict: Verdict) -> u8
+pub(crate) fn verdict_status(verdict: Verdict) -> u8
     ensures { result ≡ verdict_status verdict }
 {
     match verdict {
@@ -96,7 +96,7 @@ fn push_difference(
 }
 
 // What a thread saw: nothing, where it is not there.
-fn rows_of(transcripts: &Transcripts, thread: usize) -> &[Row]
+pub(crate) fn rows_of(transcripts: &Transcripts, thread: usize) -> &[Row]
     ensures { result.now ≡ rows_of transcripts.now thread }
 {
     match transcripts.threads().get(thread) {

@@ -2,8 +2,8 @@
 //! same scripts, and what the threads saw is compared.
 //!
 //! [`compare_over`] prints a verdict, as `same` or `differs 0 2`, and returns the exit status; by
-//! [`CompareOptions`] it prints the rows too, and leaves turns out. Its contract says what is
-//! printed for which texts.
+//! [`CompareOptions`] it prints the rows too, leaves turns out, and prints objects of JSON. Its
+//! contract says what is printed for which texts.
 //!
 //! ```rust
 //! use commands::Source;
@@ -31,5 +31,6 @@
 
 mod compare;
 mod differences;
+mod json_differences;
 
 pub use compare::{CompareOptions, compare_over};

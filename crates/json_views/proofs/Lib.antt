@@ -4,3 +4,4 @@ pub mod Exact
 pub mod ExactRows
 pub mod ExactEnds
 pub mod ExactLogs
+pub mod ExactSides

@@ -3,3 +3,4 @@ pub mod Calls
 pub mod Rows
 pub mod Ends
 pub mod Logs
+pub mod Sides

@@ -103,7 +103,7 @@ fn unmet_value(alloc: Global, unmet: Option<&[u8]>) -> Result<Value, AllocError>
     }
 }
 
-fn end_words(stop: Option<Stop>) -> &'static str
+pub(crate) fn end_words(stop: Option<Stop>) -> &'static str
     ensures { result.now ≡ end_words stop }
 {
     match stop {
@@ -117,7 +117,7 @@ fn end_words(stop: Option<Stop>) -> &'static str
     }
 }
 
-fn thread_stopped(stop: Option<Stop>) -> Option<usize>
+pub(crate) fn thread_stopped(stop: Option<Stop>) -> Option<usize>
     ensures { result ≡ thread_stopped stop }
 {
     match stop {
@@ -126,7 +126,7 @@ fn thread_stopped(stop: Option<Stop>) -> Option<usize>
     }
 }
 
-fn outcome_stopped(stop: Option<Stop>) -> Option<u32>
+pub(crate) fn outcome_stopped(stop: Option<Stop>) -> Option<u32>
     ensures { result ≡ outcome_stopped stop }
 {
     match stop {

@@ -2,9 +2,11 @@
 //!
 //! [`run_json`] makes what is printed of a run: the line of each call that was answered
 //! ([`push_row_json`]), and the last one, which says how it ended. [`log_json`] is the text of a
-//! log, as far as it is whole. By the contracts the bytes are the compact text of the values that
-//! `specs/` defines. The members of an object come in the order of their names. It takes memory,
-//! and fails only where there is none.
+//! log, as far as it is whole. [`push_side_row`] and [`push_side_end`] make the lines of two replays
+//! that are compared. Whoever prints other values has [`text_value`] and [`push_line`]: a text that
+//! may not be ASCII, and the line of a value. By the contracts the bytes are the compact text of
+//! the values that `specs/` defines. The members of an object come in the order of their names. It
+//! takes memory, and fails only where there is none.
 //!
 //! ```rust
 //! use answered_calls::answered_calls;
@@ -28,8 +30,11 @@ mod flags;
 mod logs;
 mod replies;
 mod rows;
+mod sides;
 mod values;
 
 pub use ends::run_json;
 pub use logs::{Tear, log_json};
 pub use rows::push_row_json;
+pub use sides::{push_side_end, push_side_row};
+pub use values::{push_line, text_value};

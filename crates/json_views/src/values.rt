@@ -19,7 +19,7 @@ pub(crate) fn hex_value(alloc: Global, bytes: &[u8]) -> Result<Value, AllocError
 }
 
 /// A text, or its hexadecimal digits where it is not ASCII.
-pub(crate) fn text_value(alloc: Global, text: &[u8]) -> Result<Value, AllocError>
+pub fn text_value(alloc: Global, text: &[u8]) -> Result<Value, AllocError>
     ensures { IfOk result (λ value. view value ≡ text_value text.now) }
 {
     if let Some(text) = ascii(text) {
@@ -48,7 +48,7 @@ fn is_ascii(bytes: &[u8]) -> bool
 }
 
 /// Adds the line of a value that has no float.
-pub(crate) fn push_line(text: &mut Vec<u8>, value: &Value) -> Result<(), AllocError>
+pub fn push_line(text: &mut Vec<u8>, value: &Value) -> Result<(), AllocError>
     requires { has_float (view value.now) ≡ false }
     ensures { OnOk result (text.new.items ≡ text.old.items ++ line_of (view value.now)) }
 {
