@@ -22,8 +22,9 @@ use Rattle.command_inputs.specs.Sources.{IsRead}
 use Rattle.command_inputs.specs.declared.sources.SourceTexts.{SourceTexts}
 use Rattle.command_inputs.specs.declared.sources.SourceTexts.TheVariants as sourced
 use Rattle.check_commands.specs.Checking.{AddsFindings, AreFindings, CheckPrints, TextsPrint}
-use Rattle.check_commands.specs.Checking.{is_script_text, scripts_among}
-use Rattle.check_commands.specs.Findings.{checked_text, is_good, script_in}
+use Rattle.check_commands.specs.Checking.{checked_by, is_script_text, scripts_among}
+use Rattle.check_commands.specs.Findings.{is_good, script_in}
+use Rattle.check_commands.specs.declared.checking.CheckOptions.{CheckOptions}
 
 -- a text is a script exactly where that was found
 pub good_is : (text : List ℕ) (check : Checked) → IsChecked text check
@@ -32,37 +33,37 @@ good_is text checked.TooLong is = rw is refl
 good_is text (checked.Bad shown left_out) is = rw is.is refl
 good_is text (checked.Good script lines warnings) is = rw is.is refl
 
-pub one_more : (paths texts : List (List ℕ)) (path text output output' : List ℕ)
-    → length paths ≡ length texts → AreFindings paths texts output
-    → AddsFindings path text output output'
-    → AreFindings (paths ++ path ∷ []) (texts ++ text ∷ []) output'
-one_more [] [] path text output output' e none adds = (
+pub one_more : (json : Bool) (paths texts : List (List ℕ)) (path text output output' : List ℕ)
+    → length paths ≡ length texts → AreFindings json paths texts output
+    → AddsFindings json path text output output'
+    → AreFindings json (paths ++ path ∷ []) (texts ++ text ∷ []) output'
+one_more json [] [] path text output output' e none adds = (
   adds.check,
   [],
   adds.is,
   refl,
   adds.adds ∙ ap
-      (λ (o : List ℕ). o ++ checked_text path adds.check) none
-      ∙ sym (append-nil (checked_text path adds.check)),
+      (λ (o : List ℕ). o ++ checked_by json path adds.check) none
+      ∙ sym (append-nil (checked_by json path adds.check)),
 )
-one_more [] (t ∷ texts) path text output output' e found adds = absurd (omega arith)
-one_more (p ∷ paths) [] path text output output' e found adds = absurd (omega arith)
-one_more (p ∷ paths) (t ∷ texts) path text output output' e (check, others, is, found, out) adds = (
+one_more json [] (t ∷ texts) path text output output' e found adds = absurd (omega arith)
+one_more json (p ∷ paths) [] path text output output' e found adds = absurd (omega arith)
+one_more json (p ∷ paths) (t ∷ texts) path text output output' e (check, others, is, found, out) adds = (
   check,
-  others ++ checked_text path adds.check,
+  others ++ checked_by json path adds.check,
   is,
-  one_more paths texts path text others (others ++ checked_text path adds.check)
+  one_more json paths texts path text others (others ++ checked_by json path adds.check)
       (omega arith) found (record { check = adds.check; is = adds.is; adds = refl }),
-  adds.adds ∙ ap (λ (o : List ℕ). o ++ checked_text path adds.check) out
-      ∙ append_assoc (checked_text p check) others (checked_text path adds.check),
+  adds.adds ∙ ap (λ (o : List ℕ). o ++ checked_by json path adds.check) out
+      ∙ append_assoc (checked_by json p check) others (checked_by json path adds.check),
 )
 
-pub added : {X E : Type 0} (result : Result X E) (path text output output' : List ℕ)
+pub added : {X E : Type 0} (json : Bool) (result : Result X E) (path text output output' : List ℕ)
     (check : Checked) → IsChecked text check
-    → OnOk result (output' ≡ output ++ checked_text path check)
-    → OnOk result (AddsFindings path text output output')
-added (Ok x) path text output output' check is adds = record { check = check; is = is; adds = adds }
-added (Err e) path text output output' check is adds = tt
+    → OnOk result (output' ≡ output ++ checked_by json path check)
+    → OnOk result (AddsFindings json path text output output')
+added json (Ok x) path text output output' check is adds = record { check = check; is = is; adds = adds }
+added json (Err e) path text output output' check is adds = tt
 
 -- the status of one more text
 pub all_more : (texts : List (List ℕ)) (i : ℕ) (text : List ℕ) (all good : Bool) → i < length texts
@@ -72,13 +73,13 @@ pub all_more : (texts : List (List ℕ)) (i : ℕ) (text : List ℕ) (all good :
 all_more texts i text all good h at were is = sym (list_all_more is_script_text texts i text h ∙ cc)
 
 -- the texts at one more of these paths
-pub found_more : {P : Type 0} (now : P → List ℕ) (paths : List P) (texts : List (List ℕ)) (i : ℕ)
+pub found_more : {P : Type 0} (json : Bool) (now : P → List ℕ) (paths : List P) (texts : List (List ℕ)) (i : ℕ)
     (path : P) (text output output' : List ℕ)
     → length paths ≡ length texts → i < length texts → text ≡ get_or texts i text
-    → AreFindings (map now (take i paths)) (take i texts) output
-    → AddsFindings (now (get_or paths i path)) text output output'
-    → AreFindings (map now (take (i + 1) paths)) (take (i + 1) texts) output'
-found_more {P = P} now paths texts i path text output output' e h at_text found adds =
+    → AreFindings json (map now (take i paths)) (take i texts) output
+    → AddsFindings json (now (get_or paths i path)) text output output'
+    → AreFindings json (map now (take (i + 1) paths)) (take (i + 1) texts) output'
+found_more {P = P} json now paths texts i path text output output' e h at_text found adds =
     let more_paths : map now (take (i + 1) paths) ≡ map now (take i paths)
     ++ now (get_or paths i path) ∷ [] =
     ap (map now) (take_more paths i path (omega arith))
@@ -88,15 +89,15 @@ found_more {P = P} now paths texts i path text output output' e h at_text found 
     let as_many : length (map now (take i paths)) ≡ length (take i texts) =
     length-map (take i paths) now ∙ omega (arith, length-take i paths, length-take i texts) in
     rw (more_paths, more_texts)
-    (one_more (map now (take i paths)) (take i texts)
+    (one_more json (map now (take i paths)) (take i texts)
     (now (get_or paths i path)) text output output' as_many found adds)
 
 -- all texts, at their paths
-pub found_all : {P : Type 0} (now : P → List ℕ) (paths : List P) (texts : List (List ℕ)) (end : ℕ)
+pub found_all : {P : Type 0} (json : Bool) (now : P → List ℕ) (paths : List P) (texts : List (List ℕ)) (end : ℕ)
     (output : List ℕ) → length paths ≡ length texts → length texts ≤ end
-    → AreFindings (map now (take end paths)) (take end texts) output
-    → AreFindings (map now paths) texts output
-found_all now paths texts end output e past found =
+    → AreFindings json (map now (take end paths)) (take end texts) output
+    → AreFindings json (map now paths) texts output
+found_all json now paths texts end output e past found =
     let ps = take_all end paths (omega arith) in
     let ts = take_all end texts past in
     rw (ps, ts) at found
@@ -107,14 +108,14 @@ firsts pair [] = refl
 firsts pair (s ∷ sources) = ap (λ (ps : List (List ℕ)). (pair s).0 ∷ ps) (firsts pair sources)
 
 -- what is printed of the texts of these sources
-pub printed_of : {S E : Type 0} (pair : S → List ℕ × Option (List ℕ)) (sources : List S)
+pub printed_of : {S E : Type 0} (options : CheckOptions) (pair : S → List ℕ × Option (List ℕ)) (sources : List S)
     (paths texts : List (List ℕ)) (read : SourceTexts) (items : Vec Bytes)
     (result : Result Printed E)
     → read ≡ sourced.Read items → texts ≡ items.items → paths ≡ map (λ s. (pair s).0) sources
     → IsRead (map pair sources) read
-    → IfOk result (TextsPrint paths texts) → IfOk result (CheckPrints (map pair sources))
-printed_of pair sources paths texts read items (Err e) was are named is prints = tt
-printed_of pair sources paths texts read items (Ok printed) was are named is prints =
+    → IfOk result (TextsPrint options.json paths texts) → IfOk result (CheckPrints options (map pair sources))
+printed_of options pair sources paths texts read items (Err e) was are named is prints = tt
+printed_of options pair sources paths texts read items (Ok printed) was are named is prints =
     (sourced.Read items, rw was at is, rw (firsts pair sources, ← named, ← are) prints)
 
 -- the script of a text exactly where it was found

@@ -19,7 +19,7 @@ pub(crate) fn push_mistake(text: &mut Vec<u8>, mistake: &Mistake) -> Result<(), 
 }
 
 #[tactic(auto, unfolding(crate::specs::Mistakes::expected_text))]
-fn push_expected(text: &mut Vec<u8>, expected: Expected) -> Result<(), AllocError>
+pub(crate) fn push_expected(text: &mut Vec<u8>, expected: Expected) -> Result<(), AllocError>
     ensures { OnOk result (text.new.items ≡ text.old.items ++ expected_text expected) }
 {
     match expected {
@@ -88,7 +88,7 @@ fn flag_words(flags: FlagSet) -> &'static str
 const SHOWN: usize = 40;
 
 #[tactic(auto, unfolding(crate::specs::Mistakes::found_text))]
-fn push_found(text: &mut Vec<u8>, found: &Found) -> Result<(), AllocError>
+pub(crate) fn push_found(text: &mut Vec<u8>, found: &Found) -> Result<(), AllocError>
     ensures { OnOk result (text.new.items ≡ text.old.items ++ found_text found.now) }
 {
     match found {

@@ -75,7 +75,7 @@ fn push_label_words(text: &mut Vec<u8>, name: &[u8]) -> Result<(), AllocError>
 }
 
 #[tactic(auto, unfolding(crate::specs::Findings::unused_words))]
-fn unused_words() -> &'static str
+pub(crate) fn unused_words() -> &'static str
     ensures { result.now ≡ unused_words }
 {
     "no line jumps to the label "
@@ -103,7 +103,7 @@ pub(crate) fn push_warning_head(
     push_word(text, "warning: ")
 }
 
-fn column_of(words: &[PlacedWord], word: usize) -> usize
+pub(crate) fn column_of(words: &[PlacedWord], word: usize) -> usize
     ensures { result ≡ column_of (slice_get words.now word) }
 {
     match words.get(word) {
@@ -112,7 +112,7 @@ fn column_of(words: &[PlacedWord], word: usize) -> usize
     }
 }
 
-fn text_of<'a>(words: &[PlacedWord<'a>], word: usize) -> &'a [u8]
+pub(crate) fn text_of<'a>(words: &[PlacedWord<'a>], word: usize) -> &'a [u8]
     ensures { result.now ≡ text_of (slice_get words.now word) }
 {
     match words.get(word) {

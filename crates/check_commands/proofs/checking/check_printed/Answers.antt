@@ -3,7 +3,7 @@ use Rattle.check_commands.proofs.checking.check_printed.Goals as goal
 
 pub returns-in-Read : goal.returns-in-Read
 returns-in-Read g c =
-    printed_of (λ s. (
+    printed_of c.args.options (λ s. (
       s.path.now,
       g.R.TextReader.remaining s.reader,
     )) c.args.sources.items _ _ c.in_ok-texts.field-0

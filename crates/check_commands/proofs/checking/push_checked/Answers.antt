@@ -7,7 +7,7 @@ returns-in-Ok-clause-good c =
 
 pub returns-in-Ok-clause-adds : goal.returns-in-Ok-clause-adds
 returns-in-Ok-clause-adds c =
-    added c.push_and_keep.result c.args.path.now c.args.text.now _ _ c.in-Ok.check c.in-Ok.ensures
+    added c.args.json c.push_and_keep.result c.args.path.now c.args.text.now _ _ c.in-Ok.check c.in-Ok.ensures
     c.push_and_keep.ensures.adds
 
 pub returns-in-Ok-clause-kept : goal.returns-in-Ok-clause-kept

@@ -9,12 +9,12 @@ pub loop-i-preserved : goal.loop-i-preserved
 loop-i-preserved c = (
   c.both-all.ensures ∙ all_more c.args.texts.now c.loop-i.i c.index-texts-i.result c.loop-i.all
       c.in_ok-good.good c.loop-i-test.true c.index-texts-i.is c.loop-i.invariant.0
-      (rw c.as_slice.ensures at c.in_ok-good.ensures.good),
-  found_more (λ p. p.now) c.args.paths.now c.args.texts.now c.loop-i.i _ c.index-texts-i.result _ _
+      (rw c.as_slice-text.ensures at c.in_ok-good.ensures.good),
+  found_more c.args.json (λ p. p.now) c.args.paths.now c.args.texts.now c.loop-i.i _ c.index-texts-i.result _ _
       c.requires c.loop-i-test.true c.index-texts-i.is c.loop-i.invariant.1
-      (rw c.as_slice.ensures at c.in_ok-good.ensures.adds),
+      (rw c.as_slice-text.ensures at c.in_ok-good.ensures.adds),
   scripts_more c.args.texts.now c.loop-i.i c.index-texts-i.result _ _ c.loop-i-test.true
-      c.index-texts-i.is c.loop-i.invariant.2 (rw c.as_slice.ensures at c.in_ok-good.ensures.kept),
+      c.index-texts-i.is c.loop-i.invariant.2 (rw c.as_slice-text.ensures at c.in_ok-good.ensures.kept),
 )
 
 pub returns : goal.returns
@@ -29,7 +29,7 @@ returns c =
           ∙ ap (list_all is_script_text) (take_all c.loop-i.i c.args.texts.now (omega arith)));
       errors = c.from_vec-2.ensures ∙ c.new.ensures.items;
       findings = c.loop-i.output.items;
-      are_findings = found_all (λ p. p.now) c.args.paths.now c.args.texts.now c.loop-i.i
+      are_findings = found_all c.args.json (λ p. p.now) c.args.paths.now c.args.texts.now c.loop-i.i
           c.loop-i.output.items c.requires (omega arith) c.loop-i.invariant.1;
       scripts = c.loop-i.scripts;
       are_scripts = are;
