@@ -10,16 +10,17 @@
 //! ```rust
 //! use host_doors::{NoGate, Outside, ScriptDoors};
 //! use log_guard::{GuardedDoors, LogFinder};
-//! use posix_terms::{Access, Bytes, Call, Errno, OpenFlags, OutKind, Outcome, Outcomes, Request};
+//! use posix_terms::{Access, Call, Errno, OpenFlags, OutKind, Outcome, Outcomes, Request};
 //! use posix_terms::{SharedBytes, Turn};
 //!
+//! #[derive(Drop)]
 //! struct OneName;
 //!
 //! impl LogFinder for OneName {
 //!     ghost may_answer = { λ _ _ _. ⊤ };
 //!
 //!     fn is_log(&self, path: &[u8]) -> bool {
-//!         path == b"self.log"
+//!         path == b"self.log".as_slice()
 //!     }
 //! }
 //!
@@ -29,8 +30,8 @@
 //!     kind: OutKind::Open,
 //!     asked: 0,
 //!     call: Call::HostOpen {
-//!         path: SharedBytes::new(alloc, Bytes::from_slice(alloc, b"self.log")?)?,
-//!         access: Access::Write,
+//!         path: SharedBytes::from_slice(alloc, b"self.log")?,
+//!         access: Access::WriteOnly,
 //!         flags: OpenFlags {
 //!             create: false,
 //!             exclusive: false,

@@ -47,7 +47,7 @@
 //! assert!(rt; target.came == Came::Error(Some(Errno::EEXIST)));
 //! let kept = minimised(alloc, trial, &target, Scope::Everything)?;
 //! let small = kept.texts(alloc, &texts)?;
-//! assert!(rt; small[0].as_slice() == b"work 9\nopen /a w create excl\n#= not fail\n".as_slice());
+//! assert!(rt; small[0].as_slice() == b"work 1\nopen /a w create excl\n#= not fail\n".as_slice());
 //! assert!(rt; small[1].as_slice() == b"open /a w create excl\n".as_slice());
 //! ```
 #![tactic(auto)]
