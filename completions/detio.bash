@@ -12,17 +12,17 @@ _detio() {
   case $command in
     '') options='check plain explore faults minimise record replay run rerun compare draw show make upgrade help -h --help -V --version' ;;
     help) options='check plain explore faults minimise record replay run rerun compare draw show make upgrade help' ;;
-    check) options='--why -h --help' paths=yes ;;
+    check) options='--json --expect --why -h --help' paths=yes ;;
     plain) options='--patience --door-cost --turns --calls --by-turn --lanes --json --expect --why -h --help' paths=yes ;;
-    explore) options='--seeds --delays --most --only --reach --jobs --write --patience --door-cost --log --why -h --help' paths=yes ;;
-    faults) options='--log --errors --short --then --only --out --jobs --why -h --help' paths=yes ;;
-    minimise) options='--write --patience --door-cost --log --why -h --help' paths=yes ;;
+    explore) options='--seeds --delays --most --only --reach --failed --allow-stops --allow-blocked --jobs --write --force --patience --door-cost --log --why -h --help' paths=yes ;;
+    faults) options='--log --errors --short --then --failed --allow-stops --allow-blocked --only --out --force --jobs --why -h --help' paths=yes ;;
+    minimise) options='--write --force --schedule --same --patience --door-cost --log --why -h --help' paths=yes ;;
     record) options='--log --log-version --force --wait --in-turn --follow --patience --door-cost --turns --calls --by-turn --lanes --json --expect --why -h --help' paths=yes ;;
     replay) options='--log --threads --turns --calls --by-turn --lanes --json --expect --why -h --help' paths=yes ;;
     run) options='--log --force --threads --mem --pass --seed --fault --overlap --parallel --env -h --help' paths=yes ;;
     rerun) options='--log --force -h --help' paths=yes ;;
-    compare) options='--log --with --rows --no-turns --why -h --help' paths=yes ;;
-    draw) options='--out --trace --log --with --patience --door-cost --why -h --help' paths=yes ;;
+    compare) options='--log --with --rows --no-turns --json --why -h --help' paths=yes ;;
+    draw) options='--out --trace --force --log --with --patience --door-cost --why -h --help' paths=yes ;;
     show) options='--log --json --why -h --help' ;;
     make) options='--out --force --why -h --help' paths=yes ;;
     upgrade) options='--log --out --force --why -h --help' paths=yes ;;
@@ -30,6 +30,7 @@ _detio() {
   case $command,$before in
     plain,--patience | plain,--door-cost) return ;;
     explore,--seeds | explore,--most | explore,--only | explore,--reach | explore,--jobs | explore,--patience | explore,--door-cost) return ;;
+    explore,--delays) paths= ;;
     explore,--write) compopt -o dirnames; return ;;
     explore,--log) compopt -o default; return ;;
     faults,--log | faults,--out) compopt -o default; return ;;

@@ -56,12 +56,14 @@ def bash_values(command: Help) -> dict[str, list[str]]:
     """What is done for a value of an option, and after which words."""
     found: dict[str, list[str]] = {}
     for option in command.options:
-        if option.values and not option.is_value_optional:
+        if option.values:
             found.setdefault(bash_value(option), []).extend(f"{command.name},{flag}" for flag in option.flags)
     return found
 
 
 def bash_value(option: Item) -> str:
+    if option.is_value_optional:
+        return "paths="
     if option.choices:
         return f"mapfile -t COMPREPLY < <(compgen -W {quoted(' '.join(option.choices))} -- \"$word\"); return"
     if option.is_path or option.is_folder:

@@ -72,10 +72,19 @@ by a number: all scripts of a run share one table, so the same number in two scr
 descriptor. That may be what is meant; else the script keeps the number that a call returned, in r0,
 and names it by a register.
 
+With --json each of these lines is an object instead, as
+  {\"column\":7,\"expected\":\"a path\",\"found\":\"the line ends here\",\"kind\":\"error\",\"line\":2,\"path\":\"a.script\"}
+on one line. Of a warning the kind is warning, and in place of what is expected and found it has a message.
+So has an error of a whole script, whose line and column are null.
+
+With --expect, where all are scripts, a line is printed too for the first bad expectation of each, a line
+#= that detio plain --expect refuses:
+  PATH:LINE:COLUMN: bad expectation: WHAT
+
 Exit statuses:
   0  all are scripts; there may be warnings
   2  wrong usage
-  3  a script has a bad line, or too many lines
+  3  a script has a bad line, or too many lines, or with --expect a bad expectation
   4  a script that cannot be read, output that cannot be written, no memory",
     after_help: "Example:
   printf 'open /a create rw\\nread 0\\n' > bad.script
@@ -85,7 +94,7 @@ prints, with status 3
   bad.script:1:9: r, w or rw is expected, \"create\" stands there
   bad.script:2:7: a number or a register r0 to r15 is expected, the line ends here",
     usage: None,
-    args: &[SCRIPTS_TO_CHECK, WHY],
+    args: &[JSON, CHECK_EXPECTATIONS, SCRIPTS_TO_CHECK, WHY],
 };
 
 const PLAIN: Subcommand = Subcommand {
@@ -174,11 +183,11 @@ the last line is
 Under detio record they get what the host gives, and by its log detio replay runs the scripts again.
 
 A line that begins with #= says what the call above it is to get, in the words of a printed reply. _
-is any operand, and #= not fail is any reply but a failure:
+is any operand, not before the words is every other reply, and not fail every reply but a failure:
   open /a r
   #= fail ENOENT
   read 0 9
-  #= fail _
+  #= not data -
 With --expect the first reply that is not so, of the least thread, has a line after the last one,
 with the number of the call's line in its script. The status is then 1 in place of 0:
   expected THREAD LINE WANTED GOT
@@ -236,24 +245,32 @@ thread whose rows differ is given, and its first such row, from 0: its call and 
 now, - for no row. Where a reply is not as expected, these lines, and the first one too, go on with
   expected THREAD LINE WANTED GOT
 for the least thread, LINE that of the script that was given. The last line is
-  runs COUNT groups COUNT failed COUNT
-A run failed if a reply was not as expected.
+  runs COUNT groups COUNT failed COUNT stopped COUNT blocked COUNT
+and each run is counted once there, or passed. It failed if a reply was not as expected. Else it is
+blocked if at some turn all threads waited for each other in memory, so that only their patience
+brought them on: then END goes on with
+  blocked for good THREAD LINE,THREAD LINE
+for the threads that waited and their lines. It is not counted as blocked where fail EINTR is expected
+of one of these calls and came. Else it is stopped if it did not come to its end, so that what is
+expected after that was not looked at; the reasons follow that COUNT, each with a count of its own.
+The status is 1 where a run failed, or was blocked, unless there is --allow-blocked, or stopped, unless
+there is --allow-stops. --failed leaves out the lines of groups that are no reason for that.
 
 A thread ends once it has executed 10000 lines, and with its delays a long loop does so earlier.
 Threads that ended so, before their scripts did, are named after END: cut off THREAD,THREAD. With its
 delays a script has at most 1000 lines.
 
-Without --log nothing comes from outside, as under detio plain, and a run stops where it asks for
-it. With --log the calls that go outside take the outcomes of that log, in their order and whatever
-their clocks, and the patience and the door cost are the log's. A run stops where a thread asks what
-the log does not answer. Expectations after a stop are not looked at.
+Without --log nothing comes from outside, as under detio plain. Where the run without delays goes
+there, that is wrong usage. With --log the calls that go outside take the outcomes of that log, in
+their order and whatever their clocks, and the patience and the door cost are the log's. A run stops
+where a thread asks what the log does not answer.
 
 --delays D runs lists of delays in place of seeds (delay bounding): every list of at most D delays,
 1 or 2, each of 1 to --reach units at one line of a call, up to --most. D is 1 where it is not given;
 then another option, or --, comes before the scripts. List 0 is empty, then come those of one delay,
 by thread, line and units. The lines of groups, and the sums, have
   list FIRST delay THREAD LINE UNITS runs COUNT ..
-  runs COUNT groups COUNT failed COUNT left out COUNT
+  runs COUNT groups COUNT failed COUNT stopped COUNT blocked COUNT left out COUNT
 with the delays of the first list of the group, and how many lists were not run.
 
 --jobs N makes the runs in N threads. What is printed is the same.
@@ -261,12 +278,12 @@ with the delays of the first list of the group, and how many lists were not run.
 --only CASE runs one seed, or the list with this number. With --write its scripts are written, with
 their delays, to new files: their paths are printed, and detio plain, record and replay take them.
 With --log too, the log of that run goes to DIR/run.log, and detio replay takes it. detio minimise
-reduces them.
+reduces them. All files are written or none; with --force they replace those that are there.
 
 Exit statuses:
-  0  all replies are as expected, or the scripts were written
-  1  a reply is not as expected
-  2  wrong usage
+  0  all runs passed, or the scripts were written
+  1  a run failed, stopped, or was blocked for good
+  2  wrong usage, scripts that go outside without --log among it
   3  a bad script, expectation or log, or a script that has no room for its delays
   4  a file that cannot be read or written, no memory",
     after_help: "Example: both threads look whether a file is there before they make it.
@@ -280,14 +297,29 @@ prints
   seed 1 runs 16 end same
   seed 2 runs 32 end differs 0 1 open number 0 -> open fail EEXIST expected 0 5 not fail fail EEXIST
   seed 4 runs 39 end differs 1 0 open number 1 -> open fail ENOENT expected 1 5 not fail fail EEXIST
-  runs 100 groups 4 failed 71
+  runs 100 groups 4 failed 71 stopped 0 blocked 0
 and
   detio explore --only 2 --write race a.script a.script
   detio plain --expect race/0.script race/1.script
 shows that run.",
     usage: None,
     args: &[
-        SEEDS, DELAYS, MOST, ONLY, REACH, JOBS, WRITE, PATIENCE, DOOR_COST, OUTCOMES, SCRIPTS, WHY,
+        SEEDS,
+        DELAYS,
+        MOST,
+        ONLY,
+        REACH,
+        FAILED,
+        ALLOW_STOPS,
+        ALLOW_BLOCKED,
+        JOBS,
+        WRITE,
+        FORCE_OF_SCRIPTS,
+        PATIENCE,
+        DOOR_COST,
+        OUTCOMES,
+        SCRIPTS,
+        WHY,
     ],
 };
 
@@ -304,9 +336,9 @@ writes of the log also bring fewer bytes: none, one, half, all but one. The line
 say what is expected: detio plain --help.
 
 The outcomes after the replaced one come while they answer what is asked. Where a thread asks what
-the log does not answer, --then says what comes: stop (the run stops there), fail (EIO), well (what
-comes of a call that goes well: all bytes written, nothing more to read, a seek to 0), 100 times at
-most. The run by the log as it is always stops there.
+the log does not answer, --then says what comes: well (what comes of a call that goes well: all bytes
+written, nothing more to read, a seek to 0), fail (EIO), 100 times at most, or stop (the run stops
+there). The run by the log as it is always stops there.
 
 The first line says how the scripts end by the log as it is:
   as they are END
@@ -315,19 +347,21 @@ and error:
   THREAD NUMBER KIND fail ERROR END same
   THREAD NUMBER KIND short COUNT END differs THREAD ROW BEFORE -> NOW
 The ends of these lines are those of detio explore. The last line is
-  cases COUNT failed COUNT
-A case failed if a reply was not as expected.
+  cases COUNT failed COUNT stopped COUNT blocked COUNT
+with the counts of detio explore, and its status: a case that stopped was not looked at to its end, and
+is a fault unless there is --allow-stops; one in which calls are blocked for good is, unless there is
+--allow-blocked. --failed leaves out the lines of cases that are no fault.
 
 --jobs N makes the runs in N threads. What is printed is the same.
 
 --only THREAD NUMBER ERROR, or a count in place of ERROR, is one case. The log of its run is written
-to the new file --out, whose path is printed, and detio replay takes it. A count is that of a read or
-a write which brought more. --then applies here too. Where that run stops, the log has no end, and its
-replay stops with end of log.
+to the new file --out, whose path is printed, and detio replay takes it; with --force it replaces a
+file that is there. A count is that of a read or a write which brought more. --then applies here too.
+Where that run stops, the log has no end, and its replay stops with end of log.
 
 Exit statuses:
-  0  all replies are as expected, or the log was written
-  1  a reply is not as expected
+  0  all cases passed, or the log was written
+  1  a case failed, stopped, or was blocked for good
   2  wrong usage
   3  a bad script, expectation or log, or a log that has no such record,
      or one that cannot be replaced so
@@ -345,15 +379,19 @@ prints at last
   0 1 read fail EIO end differs 0 1 read data 6869 -> read fail EIO
   0 1 read short 0 end differs 0 1 read data 6869 -> read data - expected 0 6 count 2 count 0
   0 1 read short 1 end differs 0 1 read data 6869 -> read data 68 expected 0 6 count 2 count 1
-  cases 4 failed 2",
+  cases 4 failed 2 stopped 0 blocked 0",
     usage: None,
     args: &[
         REPLACED_LOG,
         ERRORS,
         SHORT,
         THEN,
+        FAILED,
+        ALLOW_STOPS,
+        ALLOW_BLOCKED,
         CASE,
         CASE_LOG,
+        FORCE_OF_CASE,
         JOBS,
         SCRIPTS,
         WHY,
@@ -366,23 +404,28 @@ const MINIMISE: Subcommand = Subcommand {
     long_about: "Reduces failing scripts to what the failure needs.
 
 The scripts run as under detio plain, and some reply must not be as a line #= below its call expects
-(detio plain --help). The first such reply of the least thread is the failure. Lines and threads are
-taken away one at a time (delta debugging), always in the same order: first the lines of work; then
-all lines of each thread, from the last to the first, and the threads, again and again until nothing
-more goes. What is taken away stays away if the run still fails so: the first reply that is not as
-expected is that of the same call, held to the same line #=, and if it was an error it is the same
-error. In the end each line and each thread that is left is needed: without any one of them the run
-does not fail so.
+(detio plain --help). The first such reply of the least thread is the failure. Threads and lines are
+taken away (delta debugging), always in the same order: threads, then the lines of work, then all lines,
+half of them together, then quarters, and so on; what is left of the lines of work is made shorter; and
+one at a time the lines of each thread, from the last to the first, the threads and half of each line of
+work, again and again until nothing more goes. What is taken away stays away if the run still fails so:
+the first reply that is not as expected is that of the same call, held to the same line #=, and if it
+was an error it is the same error. With --same it is the same reply. In the end each line and each
+thread that is left is needed: without any one of them the run does not fail so, nor with half of a
+line of work.
+
+With --schedule the lines of work alone are taken away and made shorter: all else stands. A race that
+gives a wrong number, as a lost update does, needs --schedule or --same: else one thread may be left,
+which gets another wrong number.
 
 What is left is written to new files, one for each thread that is left: their paths are printed, and
-detio plain, record and replay take them.
+detio plain, record and replay take them. All are written or none; with --force they replace those that
+are there, but none of the scripts.
 
 Without --log nothing comes from outside, as under detio plain. With --log the calls that go outside
 take the outcomes of that log, in their order and whatever their clocks, and the patience and the
 door cost are the log's. The log of the run of what is left goes to DIR/run.log then, and detio
 replay takes it.
-
-Each step runs the scripts again, so long scripts take long.
 
 Exit statuses:
   0  what is left was written
@@ -403,7 +446,17 @@ prints
   open /a w create excl
   #= not fail",
     usage: None,
-    args: &[FOLDER, PATIENCE, DOOR_COST, OUTCOMES, SCRIPTS, WHY],
+    args: &[
+        FOLDER,
+        FORCE_OF_SCRIPTS,
+        SCHEDULE,
+        SAME,
+        PATIENCE,
+        DOOR_COST,
+        OUTCOMES,
+        SCRIPTS,
+        WHY,
+    ],
 };
 
 const RECORD: Subcommand = Subcommand {
@@ -422,9 +475,10 @@ of a run that was cut off is good up to its last whole record.
 
 A read or a write of a stream and an accept wait at the host for a peer, at most as long as --wait says. Then
 EAGAIN goes into the log, and the call is made again at a later turn of its thread, so its peer gets the turn;
-after as many turns as --patience says it fails with EINTR. With the defaults that is some ten seconds. With
-nonblock on the descriptor nothing waits, and EAGAIN is the reply. A thread that accepts again and again takes
-the table before threads of greater numbers: give a server's script last.
+after as many turns as --patience says it fails with EINTR. With the defaults that takes 10 to 18 seconds, since
+a wait of 10 milliseconds takes up to 18. With nonblock on the descriptor nothing waits, and EAGAIN is the
+reply. A thread that accepts again and again takes the table before threads of greater numbers: give a server's
+script last.
 
 Replies and turns are the same in each run in which the outcomes are. When a call reaches the host is not: without
 --in-turn calls of several threads reach it in any order. With it each waits until those granted before it
@@ -433,10 +487,10 @@ have their records.
 Where no thread has come to a new step for two seconds, standard error says which threads are outside, in which
 call and line, and who waits for whom. It is said once, until a thread goes on.
 
-The log is a new file, or takes the place of the log at its path, once all scripts have been read. A file there
-that is not empty and is not a log stays, unless --force is given, and a log that is one of the scripts is
-wrong usage. Two recorders must not share a log. It has room for 16777216 bytes; a script has 1000 lines, of which a
-thread executes 10000.
+The log is a new file, which is made once all scripts have been read. A file there that is not empty stays, a log or
+not, unless --force is given, and a log that is one of the scripts is wrong usage. A host_open of the log fails with
+EBUSY, by whatever name. Two recorders must not share a log. It has room for 16777216 bytes; a script has 1000 lines,
+of which a thread executes 10000.
 
 A log of version 2, the default, also has in each record the clock of the turn that its outcome belongs to. So a
 replay notices a changed script earlier, and also where its calls only come at other turns. Version 1 has no clocks,
@@ -680,6 +734,11 @@ With --no-turns the call and the reply are compared alone, and --rows prints no 
 clocks alone moved are the same, as those recorded with another --door-cost. Where one thread had another
 reply and so kept others waiting, it finds that reply, and not the first turn that came later.
 
+With --json each line is an object instead. The first has the verdict:
+  {\"row\":2,\"status\":1,\"thread\":0,\"verdict\":\"differs\"}
+With --rows an object follows for each row, and for how each replay ended. In these by is log, with or both:
+the log that gave it. Of a row that is not there the call is null.
+
 What cannot be replayed has one line on standard error, as by detio replay: first for the log of --log, then
 for that of --with.
 
@@ -705,7 +764,7 @@ prints
   > end
 since the file was there in one run, and not in the other.",
     usage: None,
-    args: &[ONE_LOG, WITH, ROWS, NO_TURNS, SCRIPTS, WHY],
+    args: &[ONE_LOG, WITH, ROWS, NO_TURNS, JSON, SCRIPTS, WHY],
 };
 
 const DRAW: Subcommand = Subcommand {
@@ -735,7 +794,8 @@ tables.
 With --trace a trace of the first run is written to a new file, in the trace event format, which is JSON.
 Perfetto and other viewers of traces read it. A clock counts as a microsecond.
 
-One of --out and --trace is to be given, or both. The path of each file that was written is printed.
+One of --out and --trace is to be given, or both. Both are written or none; with --force they replace files that
+are there. The path of each file that was written is printed.
 
 Exit statuses:
   0  the files were written
@@ -752,7 +812,15 @@ prints
   run.json",
     usage: None,
     args: &[
-        PAGE, TRACE, DRAWN_LOG, SECOND_LOG, PATIENCE, DOOR_COST, SCRIPTS, WHY,
+        PAGE,
+        TRACE,
+        FORCE_OF_PICTURES,
+        DRAWN_LOG,
+        SECOND_LOG,
+        PATIENCE,
+        DOOR_COST,
+        SCRIPTS,
+        WHY,
     ],
 };
 
@@ -815,9 +883,9 @@ line that no log has there has one line on standard error; where the text ends t
 line after the last:
   log text: bad line LINE
 
-The log is a new file, or takes the place of the log at its path. It is made only once all of it is
-known, so a bad text changes no file. A file there that is not empty and is not a log stays, unless
---force is given. The text has at most 16777216 bytes.
+The log is a new file. It is made only once all of it is known, so a bad text changes no file. A file
+there that is not empty stays, a log or not, unless --force is given. The text has at most 16777216
+bytes.
 
 Exit statuses:
   0  the log was written
@@ -857,10 +925,10 @@ left, or where the replay diverges, there is no new log, and the last line of th
   stop diverged THREAD NUMBER
   stop clock full
 
-The new log is a new file, or takes the place of the log at its path, which may be that of --log: that was read before.
-It is made only once all of it is known, so no fault of the log or of a script changes a file. A file there that is
-not empty and is not a log stays, unless --force is given, and one that is one of the scripts is wrong usage. The old
-log has at most 16777216 bytes; a new one of more cannot be read.
+The new log is a new file, or takes the place of the log of --log, which was read before. It is made only once all of
+it is known, so no fault of the log or of a script changes a file. Any other file there that is not empty stays, a log
+or not, unless --force is given, and one that is one of the scripts is wrong usage. The old log has at most 16777216
+bytes; a new one of more cannot be read.
 
 What is not a log of version 1, and a log of another number of threads, has one line on standard error:
   log: bad magic
@@ -933,6 +1001,12 @@ enum Rule {
     // one that does not go with this other one
     Excludes(&'static str),
 }
+
+const CHECK_EXPECTATIONS: Argument = Argument {
+    id: "expect",
+    help: "Also looks at what the lines #= of the scripts expect",
+    rules: &[Rule::Flag, Rule::Excludes("json")],
+};
 
 const SCRIPTS_TO_CHECK: Argument = Argument {
     id: "script",
@@ -1008,6 +1082,18 @@ const EXPECT: Argument = Argument {
     rules: &[Rule::Flag],
 };
 
+const SCHEDULE: Argument = Argument {
+    id: "schedule",
+    help: "Takes away lines of work alone: each other line and each thread stands",
+    rules: &[Rule::Flag],
+};
+
+const SAME: Argument = Argument {
+    id: "same",
+    help: "The reply that is not as expected has to stay the same, not only its error",
+    rules: &[Rule::Flag],
+};
+
 const SEEDS: Argument = Argument {
     id: "seeds",
     help: "The first seed, and the one after the last",
@@ -1034,6 +1120,7 @@ const MOST: Argument = Argument {
         Rule::Default("100000"),
         Rule::Needs("delays"),
         Rule::Excludes("only"),
+        Rule::Excludes("seeds"),
     ],
 };
 
@@ -1062,7 +1149,11 @@ const JOBS: Argument = Argument {
 const WRITE: Argument = Argument {
     id: "write",
     help: "Writes the scripts of that case to new files DIR/0.script, DIR/1.script and so on",
-    rules: &[Rule::Named("DIR"), Rule::Needs("only")],
+    rules: &[
+        Rule::Named("DIR"),
+        Rule::Needs("only"),
+        Rule::Excludes("seeds"),
+    ],
 };
 
 const OUTCOMES: Argument = Argument {
@@ -1099,8 +1190,26 @@ const THEN: Argument = Argument {
     rules: &[
         Rule::Named("WHAT"),
         Rule::Among(&["stop", "fail", "well"]),
-        Rule::Default("stop"),
+        Rule::Default("well"),
     ],
+};
+
+const FAILED: Argument = Argument {
+    id: "failed",
+    help: "Only the lines of what is a fault",
+    rules: &[Rule::Flag],
+};
+
+const ALLOW_STOPS: Argument = Argument {
+    id: "allow-stops",
+    help: "Runs that stop, so that the rest was not looked at, are no fault",
+    rules: &[Rule::Flag],
+};
+
+const ALLOW_BLOCKED: Argument = Argument {
+    id: "allow-blocked",
+    help: "Calls that are blocked for good are no fault",
+    rules: &[Rule::Flag],
 };
 
 const CASE: Argument = Argument {
@@ -1140,7 +1249,25 @@ const LOG_VERSION: Argument = Argument {
 
 const FORCE: Argument = Argument {
     id: "force",
-    help: "Replaces a file at the log's path that is not a log",
+    help: "Replaces the file at the log's path, a log or not",
+    rules: &[Rule::Flag],
+};
+
+const FORCE_OF_SCRIPTS: Argument = Argument {
+    id: "force",
+    help: "Replaces the files that are there, for --write",
+    rules: &[Rule::Flag, Rule::Needs("write")],
+};
+
+const FORCE_OF_CASE: Argument = Argument {
+    id: "force",
+    help: "Replaces the file that is there, for --out",
+    rules: &[Rule::Flag, Rule::Needs("out")],
+};
+
+const FORCE_OF_PICTURES: Argument = Argument {
+    id: "force",
+    help: "Replaces the files that are there",
     rules: &[Rule::Flag],
 };
 
@@ -1312,7 +1439,12 @@ const DRAWN_LOG: Argument = Argument {
 const SECOND_LOG: Argument = Argument {
     id: "with",
     help: "A second log, whose replay is drawn under that of the first",
-    rules: &[Rule::Named("FILE"), Rule::Needs("log")],
+    rules: &[
+        Rule::Named("FILE"),
+        Rule::Needs("log"),
+        Rule::Excludes("patience"),
+        Rule::Excludes("door-cost"),
+    ],
 };
 
 const SHOWN_LOG: Argument = Argument {
@@ -1347,7 +1479,7 @@ const NEW_LOG: Argument = Argument {
 
 const FORCE_OF_UPGRADE: Argument = Argument {
     id: "force",
-    help: "Replaces a file at the new log's path that is not a log",
+    help: "Replaces the file at the new log's path, a log or not",
     rules: &[Rule::Flag],
 };
 

@@ -75,6 +75,7 @@ const REFUSED: &[(NotCreated, &str)] = &[
         NotCreated::NotALog,
         "cannot write b.log\nthe file there is not empty and is not a log: --force replaces it\n",
     ),
+    (NotCreated::IsALog, "cannot write b.log\n"),
     (NotCreated::Memory, "no memory\n"),
 ];
 

@@ -1,7 +1,8 @@
+use crate::heard::Role;
 use crate::input::{open_scripts, open_source};
-use crate::output::Output;
+use crate::output::{Errors, Output};
 use crate::refusals::Host;
-use crate::writing::write_new;
+use crate::writing::{Destination, to_file, write_printed};
 use clap::ArgMatches;
 use commands::{print, settings_of};
 use draw_commands::{DrawOptions, Drawn, draw_log, draw_logs, draw_plain};
@@ -17,11 +18,11 @@ pub(crate) fn run_draw(host: Host<'_>, matches: &ArgMatches<'_>) -> Result<u8, A
     };
     match drawn(host, options, matches)? {
         Drawn::Pictures { page, trace } => {
-            let is_done = is_written(host, page_path, page) && is_written(host, trace_path, trace);
-            Ok(if is_done { 0 } else { 4 })
+            let pictures = [(page_path, page.as_ref()), (trace_path, trace.as_ref())];
+            write_pictures(host, matches, &pictures)
         }
         Drawn::Fault(printed) => {
-            Ok(print(&printed, &mut Output::new(host), &mut host.rt.stderr()).unwrap_or(4))
+            Ok(print(&printed, &mut Output::new(host), &mut Errors::new(host.rt)).unwrap_or(4))
         }
     }
 }
@@ -33,8 +34,12 @@ fn drawn(
     matches: &ArgMatches<'_>,
 ) -> Result<Drawn, AllocError> {
     let alloc = host.rt.alloc();
-    let log = matches.get_str("log").map(|path| open_source(host, path));
-    let other = matches.get_str("with").map(|path| open_source(host, path));
+    let log = matches
+        .get_str("log")
+        .map(|path| open_source(host, path, Role::Log));
+    let other = matches
+        .get_str("with")
+        .map(|path| open_source(host, path, Role::OtherLog));
     let sources = open_scripts(host, matches.get_strs("script").unwrap_or(&[]))?;
     match (log, other) {
         (Some(log), Some(other)) => draw_logs(alloc, options, log, other, sources),
@@ -50,10 +55,22 @@ fn drawn(
     }
 }
 
-// Whether a new file at this path has these bytes, where both are there.
-fn is_written(host: Host<'_>, path: Option<&str>, bytes: Option<Bytes>) -> bool {
-    match (path, bytes) {
-        (Some(path), Some(bytes)) => write_new(host, path, &bytes),
-        _ => true,
+// Writes the pictures that are there to their files.
+fn write_pictures(
+    host: Host<'_>,
+    matches: &ArgMatches<'_>,
+    pictures: &[(Option<&str>, Option<&Bytes>)],
+) -> Result<u8, AllocError> {
+    let mut files = Vec::new(host.rt.alloc());
+    for picture in pictures {
+        if let (Some(path), Some(bytes)) = *picture {
+            files.push(to_file(path, bytes))?;
+        }
     }
+    let to = Destination {
+        host,
+        force: matches.get_flag("force"),
+        scripts: matches.get_strs("script").unwrap_or(&[]),
+    };
+    write_printed(to, None, files.as_slice())
 }

@@ -1,11 +1,15 @@
+use crate::heard::Role;
 use crate::input::{open_scripts, open_source};
-use crate::output::Output;
+use crate::output::{Errors, Output};
 use crate::progress::ProgressLine;
 use crate::refusals::Host;
-use crate::writing::write_scripts;
+use crate::writing::{Destination, write_scripts};
 use clap::ArgMatches;
 use commands::settings_of;
-use explore_commands::{ExploreOptions, Schedules, Workers, explore_over, to_minimise, to_write};
+use explore_commands::{
+    Allowed, ExploreOptions, MinimiseOptions, Sameness, Schedules, Scope, Shown, Workers,
+    explore_over, to_minimise, to_write,
+};
 use std::alloc::{AllocError, Global};
 use std::thread::Threads;
 
@@ -25,16 +29,24 @@ pub(crate) fn run_explore<T: Threads + Sync>(
         None,
     );
     let alloc = rt.alloc();
-    let log = matches.get_str("log").map(|path| open_source(host, path));
-    let sources = open_scripts(host, matches.get_strs("script").unwrap_or(&[]))?;
+    let log = matches
+        .get_str("log")
+        .map(|path| open_source(host, path, Role::Log));
+    let scripts = matches.get_strs("script").unwrap_or(&[]);
+    let sources = open_scripts(host, scripts)?;
     if let Some(folder) = matches.get_str("write") {
         let by_log = log.is_some();
         let to_write = to_write(alloc, settings, options, log, sources)?;
-        return write_scripts(host, to_write, folder, by_log);
+        let to = Destination {
+            host,
+            force: matches.get_flag("force"),
+            scripts,
+        };
+        return write_scripts(to, to_write, folder, by_log);
     }
     keep_memory(alloc);
     let mut progress = ProgressLine::new(rt);
-    let (mut output, mut errors) = (Output::new(host), rt.stderr());
+    let (mut output, mut errors) = (Output::new(host), Errors::new(rt));
     let workers = Workers {
         threads,
         jobs: jobs(matches),
@@ -64,12 +76,33 @@ pub(crate) fn run_minimise(host: Host<'_>, matches: &ArgMatches<'_>) -> Result<u
         matches.get_one::<u32>("door-cost"),
         None,
     );
-    let log = matches.get_str("log").map(|path| open_source(host, path));
+    let log = matches
+        .get_str("log")
+        .map(|path| open_source(host, path, Role::Log));
     let by_log = log.is_some();
-    let sources = open_scripts(host, matches.get_strs("script").unwrap_or(&[]))?;
+    let scripts = matches.get_strs("script").unwrap_or(&[]);
+    let sources = open_scripts(host, scripts)?;
     keep_memory(rt.alloc());
-    let to_write = to_minimise(rt.alloc(), settings, log, sources)?;
-    write_scripts(host, to_write, folder, by_log)
+    let options = minimise_options(matches);
+    let to_write = to_minimise(rt.alloc(), settings, options, log, sources)?;
+    let to = Destination {
+        host,
+        force: matches.get_flag("force"),
+        scripts,
+    };
+    write_scripts(to, to_write, folder, by_log)
+}
+
+fn minimise_options(matches: &ArgMatches<'_>) -> MinimiseOptions {
+    let scope = match matches.get_flag("schedule") {
+        true => Scope::Schedule,
+        false => Scope::Everything,
+    };
+    let sameness = match matches.get_flag("same") {
+        true => Sameness::Reply,
+        false => Sameness::Error,
+    };
+    MinimiseOptions { scope, sameness }
 }
 
 // Has the allocator keep what a run gives back, for the next run. That of glibc gives memory back to
@@ -77,6 +110,17 @@ pub(crate) fn run_minimise(host: Host<'_>, matches: &ArgMatches<'_>) -> Result<u
 // calls of the system for that. Without memory nothing is changed.
 pub(crate) fn keep_memory(alloc: Global) {
     let _ = Vec::<u8>::with_capacity(alloc, 16 << 20);
+}
+
+// Which lines are printed, and what is a fault.
+pub(crate) fn shown(matches: &ArgMatches<'_>) -> Shown {
+    Shown {
+        allowed: Allowed {
+            stops: matches.get_flag("allow-stops"),
+            blocked: matches.get_flag("allow-blocked"),
+        },
+        failed_only: matches.get_flag("failed"),
+    }
 }
 
 // In how many threads runs are made.
@@ -99,6 +143,7 @@ fn options(matches: &ArgMatches<'_>) -> Option<ExploreOptions> {
         first,
         end,
         reach: matches.get_one::<u32>("reach")?,
+        shown: shown(matches),
     })
 }
 

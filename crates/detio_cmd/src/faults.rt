@@ -1,9 +1,10 @@
-use crate::explore::{jobs, keep_memory};
+use crate::explore::{jobs, keep_memory, shown};
+use crate::heard::Role;
 use crate::input::{open_scripts, open_source};
-use crate::output::Output;
+use crate::output::{Errors, Output};
 use crate::progress::ProgressLine;
 use crate::refusals::Host;
-use crate::writing::write_log;
+use crate::writing::{Destination, write_log};
 use clap::ArgMatches;
 use expectations::error_named;
 use explore_commands::{FaultOptions, Workers, faults_over, to_write_case};
@@ -38,8 +39,9 @@ pub(crate) fn run_faults<T: Threads + Sync>(
             short: matches.get_flag("short"),
         },
         filling: filling_of(matches),
+        shown: shown(matches),
     };
-    let log = open_source(host, path);
+    let log = open_source(host, path, Role::Log);
     let sources = open_scripts(host, matches.get_strs("script").unwrap_or(&[]))?;
     keep_memory(rt.alloc());
     let mut progress = ProgressLine::new(rt);
@@ -55,7 +57,7 @@ pub(crate) fn run_faults<T: Threads + Sync>(
         sources,
         &mut progress,
         &mut Output::new(host),
-        &mut rt.stderr(),
+        &mut Errors::new(rt),
     );
     Ok(status.unwrap_or(4))
 }
@@ -71,10 +73,16 @@ fn write_case(
     let Some(case) = case_of(matches.get_strs("only").unwrap_or(&[])) else {
         return Ok(not_a_case(rt));
     };
-    let log = open_source(host, path);
-    let sources = open_scripts(host, matches.get_strs("script").unwrap_or(&[]))?;
+    let log = open_source(host, path, Role::Log);
+    let scripts = matches.get_strs("script").unwrap_or(&[]);
+    let sources = open_scripts(host, scripts)?;
     let to_write = to_write_case(rt.alloc(), case, filling_of(matches), log, sources)?;
-    Ok(write_log(host, to_write, out))
+    let to = Destination {
+        host,
+        force: matches.get_flag("force"),
+        scripts,
+    };
+    write_log(to, to_write, out)
 }
 
 // The case of these words: a thread, the number of one of its records, and an error or a count.

@@ -1,8 +1,9 @@
 ghost use Rattle.std.specs.Prelude.{None};
 
-use crate::refusals::{Host, NotedReads, Refusals};
+use crate::heard::Role;
+use crate::refusals::{Host, NotedReads};
 use clap::ArgMatches;
-use commands::{Source, SourceFault, TextReader, read_once};
+use commands::{LARGEST_FILE, Source, SourceFault, TextReader, read_once};
 use std::alloc::{AllocError, Global};
 use std::fs::{self, File};
 use std::io::{self, Stdin};
@@ -22,7 +23,10 @@ pub(crate) fn path_of(path: &str) -> &str {
 #[derive(Drop)]
 pub(crate) struct Input<'h> {
     place: Origin,
-    refusals: &'h Refusals,
+    host: Host<'h>,
+    role: Role,
+    // How many bytes of it were read.
+    read: usize,
 }
 
 // A text that could not be opened fails when it is read, so that the faults of all scripts are found in
@@ -38,14 +42,27 @@ impl TextReader for Input<'_> {
     ghost remaining = { λ _. None };
 
     fn next_bytes(&mut self, buffer: &mut [u8]) -> Result<usize, SourceFault> {
-        let refusals = self.refusals;
-        match &mut self.place {
-            Origin::Stdin(reader) => read_once(&mut NotedReads { reader, refusals }, buffer),
-            Origin::File(reader) => read_once(&mut NotedReads { reader, refusals }, buffer),
+        let refusals = self.host.refusals;
+        let count = match &mut self.place {
+            Origin::Stdin(reader) => read_once(&mut NotedReads { reader, refusals }, buffer)?,
+            Origin::File(reader) => read_once(&mut NotedReads { reader, refusals }, buffer)?,
             Origin::Unreadable(error) => {
                 refusals.note(*error);
-                Err(SourceFault)
+                return Err(SourceFault);
             }
+        };
+        self.note(&buffer[..count]);
+        Ok(count)
+    }
+}
+
+impl Input<'_> {
+    // These bytes were read.
+    fn note(&mut self, bytes: &[u8]) {
+        self.host.heard.add(self.role, bytes);
+        self.read = self.read.saturating_add(bytes.len());
+        if self.read > LARGEST_FILE {
+            self.host.refusals.note_size();
         }
     }
 }
@@ -56,15 +73,19 @@ pub(crate) fn open_scripts<'a, 'h>(
     paths: &[&'a str],
 ) -> Result<Vec<Source<'a, Input<'h>>>, AllocError> {
     let mut sources = Vec::new(host.rt.alloc());
-    for path in paths {
-        sources.push(open_source(host, path))?;
+    for (number, path) in paths.iter().enumerate() {
+        sources.push(open_source(host, path, Role::Script(number)))?;
     }
     Ok(sources)
 }
 
 // The text at this path. Standard input is read as such, since opening its path again is refused where
 // another user made the pipe after it.
-pub(crate) fn open_source<'a, 'h>(host: Host<'h>, path: &'a str) -> Source<'a, Input<'h>> {
+pub(crate) fn open_source<'a, 'h>(
+    host: Host<'h>,
+    path: &'a str,
+    role: Role,
+) -> Source<'a, Input<'h>> {
     let place = if path_of(path) == STDIN_PATH {
         Origin::Stdin(host.rt.stdin())
     } else {
@@ -73,10 +94,14 @@ pub(crate) fn open_source<'a, 'h>(host: Host<'h>, path: &'a str) -> Source<'a, I
             Err(error) => Origin::Unreadable(error),
         }
     };
-    let refusals = host.refusals;
     Source {
         path,
-        reader: Input { place, refusals },
+        reader: Input {
+            place,
+            host,
+            role,
+            read: 0,
+        },
     }
 }
 

@@ -4,15 +4,18 @@
 mod draw;
 mod explore;
 mod faults;
+mod heard;
 mod input;
 mod log_file;
+mod new_files;
 mod output;
 mod progress;
+mod reasons;
 mod record;
 mod refusals;
 mod writing;
 
-use check_commands::check_over;
+use check_commands::{CheckOptions, bad_expectation_line, check_over};
 use clap::ArgMatches;
 use clap::error::ErrorKind;
 use command_line::command;
@@ -24,15 +27,19 @@ use compare_commands::{CompareOptions, compare_over};
 use draw::run_draw;
 use explore::{run_explore, run_minimise};
 use faults::run_faults;
+use heard::{Heard, Role};
 use host_doors::Outside;
 use input::{is_read_twice, open_scripts, open_source, read_twice};
-use log_file::{LogFile, is_script, log_is_script};
-use output::Output;
+use log_file::{LogFile, is_same_file, is_script, log_is_script};
+use log_guard::LogPlace;
+use output::{Errors, Output};
 use progress::RunLine;
+use reasons::{are_said, say_input};
 use record::{HostOutsides, NewOutsides, run_record};
 use refusals::{Host, Refusals};
 use std::alloc::AllocError;
 use std::fs::File;
+use std::io::Write;
 use std::process::ExitCode;
 use std::sync::Wait;
 use std::thread::Threads;
@@ -42,7 +49,7 @@ fn main(rt: HostRuntime) -> ExitCode {
     let held = places_held(&rt);
     let status = match run(&rt, &rt, HostOutsides { rt }) {
         Ok(status) => status,
-        Err(AllocError) => no_memory(&mut rt.stderr()).unwrap_or(4),
+        Err(AllocError) => no_memory(&mut Errors::new(&rt)).unwrap_or(4),
     };
     drop(held);
     ExitCode::from(status)
@@ -96,14 +103,21 @@ fn run_matches<O: Outside + Send + Drop, N: NewOutsides<O> + Drop, T: Threads + 
     if is_read_twice(rt.alloc(), command, matches)? {
         return Ok(read_twice(rt));
     }
+    let says_more = are_said(rt, matches);
     let refusals = Refusals::new();
+    let heard = Heard::new(rt.alloc(), says_more || matches.get_flag("expect"));
     let host = Host {
         rt,
         refusals: &refusals,
+        heard: &heard,
     };
     let status = run_command(host, handles, outsides, command, matches)?;
-    if matches.get_flag("why") {
+    if says_more {
         refusals.say(rt);
+    }
+    if says_more && status == 3 && command != "check" {
+        // Without memory no more is said.
+        let _ = say_input(host, command, matches);
     }
     Ok(status)
 }
@@ -128,7 +142,7 @@ fn run_command<O: Outside + Send + Drop, N: NewOutsides<O> + Drop, T: Threads + 
         "compare" => run_compare(host, matches),
         "draw" => run_draw(host, matches),
         "show" => Ok(run_show(host, matches)),
-        "make" => Ok(run_make(host, matches)),
+        "make" => run_make(host, matches),
         "upgrade" => run_upgrade(host, matches),
         _ => Ok(2),
     }
@@ -151,9 +165,14 @@ fn other_usage(rt: &HostRuntime, error: clap::Error) -> Result<u8, AllocError> {
     if error.kind() == ErrorKind::OutOfMemory {
         return Err(AllocError);
     }
-    match error.print(rt) {
+    let printed = if error.use_stderr() {
+        write!(Errors::new(rt), "{error}")
+    } else {
+        error.print(rt)
+    };
+    match printed {
         Err(failed) if failed.kind() != io::ErrorKind::BrokenPipe => {
-            Ok(cannot_write(&mut rt.stderr()).unwrap_or(4))
+            Ok(cannot_write(&mut Errors::new(rt)).unwrap_or(4))
         }
         _ => Ok(error.exit_code() as u8),
     }
@@ -177,10 +196,36 @@ pub(crate) fn run_options(matches: &ArgMatches<'_>) -> RunOptions {
 // `detio check`, as the command line has it.
 fn run_check(host: Host<'_>, matches: &ArgMatches<'_>) -> Result<u8, AllocError> {
     let rt = host.rt;
-    let sources = open_scripts(host, matches.get_strs("script").unwrap_or(&[]))?;
-    let (mut output, mut errors) = (Output::new(host), rt.stderr());
-    let status = check_over(rt.alloc(), sources, &mut output, &mut errors);
-    Ok(status.unwrap_or(4))
+    let paths = matches.get_strs("script").unwrap_or(&[]);
+    let sources = open_scripts(host, paths)?;
+    let (mut output, mut errors) = (Output::new(host), Errors::new(rt));
+    let options = CheckOptions {
+        json: matches.get_flag("json"),
+    };
+    let status = check_over(rt.alloc(), options, sources, &mut output, &mut errors).unwrap_or(4);
+    if status == 0 && matches.get_flag("expect") {
+        return check_expectations(host, paths);
+    }
+    Ok(status)
+}
+
+// Looks at what the scripts at these paths expect, which were read.
+fn check_expectations(host: Host<'_>, paths: &[&str]) -> Result<u8, AllocError> {
+    let mut output = Output::new(host);
+    let mut status = 0;
+    for (number, path) in paths.iter().enumerate() {
+        let Some(text) = host.heard.text(Role::Script(number)) else {
+            return Err(AllocError);
+        };
+        let line = bad_expectation_line(host.rt.alloc(), path, text.as_slice())?;
+        if !line.is_empty() {
+            status = 3;
+        }
+        if output.write_all(&line).is_err() {
+            return Ok(cannot_write(&mut Errors::new(host.rt)).unwrap_or(4));
+        }
+    }
+    Ok(status)
 }
 
 // `detio plain`, as the command line has it.
@@ -199,7 +244,7 @@ fn run_plain(host: Host<'_>, matches: &ArgMatches<'_>) -> Result<u8, AllocError>
         sources,
         &mut RunLine::new(rt),
         &mut Output::new(host),
-        &mut rt.stderr(),
+        &mut Errors::new(rt),
     );
     Ok(status.unwrap_or(4))
 }
@@ -215,10 +260,10 @@ fn run_replay<T: Threads + Wait + Sync>(
         return Ok(2);
     };
     let options = run_options(matches);
-    let log = open_source(host, path);
+    let log = open_source(host, path, Role::Log);
     let sources = open_scripts(host, matches.get_strs("script").unwrap_or(&[]))?;
     let alloc = rt.alloc();
-    let (mut output, mut errors) = (Output::new(host), rt.stderr());
+    let (mut output, mut errors) = (Output::new(host), Errors::new(rt));
     let status = if matches.get_flag("threads") {
         replay_threads_over(
             handles,
@@ -258,12 +303,13 @@ fn run_compare(host: Host<'_>, matches: &ArgMatches<'_>) -> Result<u8, AllocErro
     let (Some(log), Some(other)) = (matches.get_str("log"), matches.get_str("with")) else {
         return Ok(2);
     };
-    let log = open_source(host, log);
-    let other = open_source(host, other);
+    let log = open_source(host, log, Role::Log);
+    let other = open_source(host, other, Role::OtherLog);
     let sources = open_scripts(host, matches.get_strs("script").unwrap_or(&[]))?;
     let options = CompareOptions {
         rows: matches.get_flag("rows"),
         turns: !matches.get_flag("no-turns"),
+        json: matches.get_flag("json"),
     };
     let status = compare_over(
         rt.alloc(),
@@ -272,7 +318,7 @@ fn run_compare(host: Host<'_>, matches: &ArgMatches<'_>) -> Result<u8, AllocErro
         other,
         sources,
         &mut Output::new(host),
-        &mut rt.stderr(),
+        &mut Errors::new(rt),
     );
     Ok(status.unwrap_or(4))
 }
@@ -283,38 +329,44 @@ fn run_show(host: Host<'_>, matches: &ArgMatches<'_>) -> u8 {
     let Some(path) = matches.get_str("log") else {
         return 2;
     };
-    let source = open_source(host, path);
+    let source = open_source(host, path, Role::Log);
     let json = matches.get_flag("json");
     show_over(
         rt.alloc(),
         json,
         source,
         &mut Output::new(host),
-        &mut rt.stderr(),
+        &mut Errors::new(rt),
     )
     .unwrap_or(4)
 }
 
 // `detio make`, as the command line has it.
-fn run_make(host: Host<'_>, matches: &ArgMatches<'_>) -> u8 {
+fn run_make(host: Host<'_>, matches: &ArgMatches<'_>) -> Result<u8, AllocError> {
     let rt = host.rt;
     let (Some(text), Some(path)) = (matches.get_str("text"), matches.get_str("out")) else {
-        return 2;
+        return Ok(2);
     };
-    let text = open_source(host, text);
-    let force = matches.get_flag("force");
+    let place = LogPlace::new(rt.alloc())?;
+    let text = open_source(host, text, Role::Text);
     let out = LogTo {
         path,
-        log: LogFile { host, path, force },
+        log: LogFile {
+            host,
+            path,
+            force: matches.get_flag("force"),
+            was_read: false,
+            place: &place,
+        },
     };
     let made = make_over(
         rt.alloc(),
         text,
         out,
         &mut Output::new(host),
-        &mut rt.stderr(),
+        &mut Errors::new(rt),
     );
-    made.map(|it| it.status).unwrap_or(4)
+    Ok(made.map(|it| it.status).unwrap_or(4))
 }
 
 // `detio upgrade`, as the command line has it.
@@ -327,21 +379,27 @@ fn run_upgrade(host: Host<'_>, matches: &ArgMatches<'_>) -> Result<u8, AllocErro
     if is_script(rt, path, scripts) {
         return Ok(log_is_script(rt, path));
     }
-    let log = open_source(host, log);
+    let place = LogPlace::new(rt.alloc())?;
+    let source = open_source(host, log, Role::Log);
     let sources = open_scripts(host, scripts)?;
-    let force = matches.get_flag("force");
     let out = LogTo {
         path,
-        log: LogFile { host, path, force },
+        log: LogFile {
+            host,
+            path,
+            force: matches.get_flag("force"),
+            was_read: is_same_file(rt, path, log),
+            place: &place,
+        },
     };
     let upgraded = upgrade_over(
         rt.alloc(),
         matches.get_flag("why"),
-        log,
+        source,
         out,
         sources,
         &mut Output::new(host),
-        &mut rt.stderr(),
+        &mut Errors::new(rt),
     );
     Ok(upgraded.map(|it| it.status).unwrap_or(4))
 }

@@ -1,80 +1,109 @@
-use crate::output::Output;
+use crate::log_file::is_script;
+use crate::new_files::{NotWritten, ToFile, write_files};
+use crate::output::{Errors, Output};
 use crate::refusals::Host;
 use commands::{cannot_write, print};
 use explore_commands::ScriptsToWrite;
 use posix_terms::Bytes;
 use std::alloc::AllocError;
-use std::fs::{self, File};
-use std::io::Write;
+use std::io::{ErrorKind, Write};
 
-// Writes scripts to new files of this directory, which is made where it is not there, and prints
-// their paths; with them the log of their run, where outcomes came from a log.
+// Where a command writes files.
+#[derive(Clone, Copy)]
+pub(crate) struct Destination<'a> {
+    pub host: Host<'a>,
+    // Whether files that are there are replaced.
+    pub force: bool,
+    // The paths of the scripts, which no file takes the place of.
+    pub scripts: &'a [&'a str],
+}
+
+// Writes scripts to files of this directory, which is made where it is not there, and prints their
+// paths; with them the log of their run, where outcomes came from a log.
 pub(crate) fn write_scripts(
-    host: Host<'_>,
+    to: Destination<'_>,
     to_write: ScriptsToWrite,
     folder: &str,
     by_log: bool,
 ) -> Result<u8, AllocError> {
+    let host = to.host;
+    let alloc = host.rt.alloc();
     let (texts, log) = match to_write {
         ScriptsToWrite::Texts(texts, log) => (texts, log),
         ScriptsToWrite::Fault(printed) => {
-            return Ok(print(&printed, &mut Output::new(host), &mut host.rt.stderr()).unwrap_or(4));
+            return Ok(print(&printed, &mut Output::new(host), &mut Errors::new(host.rt)).unwrap_or(
+                4,
+            ));
         }
     };
-    // Where there is no directory, no file of it can be made.
-    let _ = fs::create_dir_all(host.rt, folder);
-    for (thread, text) in texts.iter().enumerate() {
-        let path = format!(in host.rt.alloc(); "{folder}/{thread}.script")?;
-        if !write_new(host, path.as_str(), text) {
-            return Ok(4);
-        }
+    let mut paths = Vec::new(alloc);
+    for thread in 0..texts.len() {
+        paths.push(format!(in alloc; "{folder}/{thread}.script")?)?;
     }
     if by_log {
-        let path = format!(in host.rt.alloc(); "{folder}/run.log")?;
-        if !write_new(host, path.as_str(), &log) {
-            return Ok(4);
-        }
+        paths.push(format!(in alloc; "{folder}/run.log")?)?;
     }
-    Ok(0)
+    let mut files = Vec::new(alloc);
+    for (path, bytes) in paths.iter().zip(texts.iter().chain(std::iter::once(&log))) {
+        files.push(to_file(path.as_str(), bytes))?;
+    }
+    write_printed(to, Some(folder), files.as_slice())
 }
 
-// Writes the log of a run to a new file.
-pub(crate) fn write_log(host: Host<'_>, to_write: ScriptsToWrite, path: &str) -> u8 {
+// Writes the log of a run to a file.
+pub(crate) fn write_log(
+    to: Destination<'_>,
+    to_write: ScriptsToWrite,
+    path: &str,
+) -> Result<u8, AllocError> {
+    let host = to.host;
     match to_write {
-        ScriptsToWrite::Texts(_, log) => { if write_new(host, path, &log) { 0 } else { 4 } }
+        ScriptsToWrite::Texts(_, log) => write_printed(to, None, &[to_file(path, &log)]),
         ScriptsToWrite::Fault(printed) => {
-            print(&printed, &mut Output::new(host), &mut host.rt.stderr()).unwrap_or(4)
+            Ok(print(&printed, &mut Output::new(host), &mut Errors::new(host.rt)).unwrap_or(4))
         }
     }
 }
 
-// Writes these bytes to a new file, and prints its path; or a line that says that it cannot.
-pub(crate) fn write_new(host: Host<'_>, path: &str, bytes: &Bytes) -> bool {
-    if !is_new_with(host, path, bytes.as_slice()) {
-        let _ = eprintln!(host.rt; "cannot write {path}");
-        return false;
+pub(crate) fn to_file<'a>(path: &'a str, bytes: &'a Bytes) -> ToFile<'a> {
+    ToFile {
+        path,
+        bytes: bytes.as_slice(),
     }
-    let mut output = Output::new(host);
-    if writeln!(output, "{path}").is_err() {
-        let _ = cannot_write(&mut host.rt.stderr());
-        return false;
-    }
-    true
 }
 
-// Whether a new file at this path has these bytes.
-fn is_new_with(host: Host<'_>, path: &str, bytes: &[u8]) -> bool {
-    match File::create_new(host.rt, path) {
-        Ok(mut file) => match file.write_all(bytes) {
-            Ok(()) => true,
-            Err(error) => {
-                host.refusals.note(error);
-                false
-            }
-        },
-        Err(error) => {
+// Writes these files, and then prints their paths; or a line that says which one it cannot write.
+pub(crate) fn write_printed(
+    to: Destination<'_>,
+    folder: Option<&str>,
+    files: &[ToFile<'_>],
+) -> Result<u8, AllocError> {
+    let host = to.host;
+    for file in files {
+        if to.force && is_script(host.rt, file.path, to.scripts) {
+            let path = file.path;
+            let _ = writeln!(Errors::new(host.rt), "error: {path} is one of the scripts");
+            return Ok(2);
+        }
+    }
+    match write_files(host.rt, folder, files, to.force) {
+        Ok(()) => Ok(paths_printed(host, files)),
+        Err(NotWritten { error, .. }) if error.kind() == ErrorKind::OutOfMemory => Err(AllocError),
+        Err(NotWritten { path, error }) => {
             host.refusals.note(error);
-            false
+            let _ = writeln!(Errors::new(host.rt), "cannot write {path}");
+            Ok(4)
         }
     }
+}
+
+fn paths_printed(host: Host<'_>, files: &[ToFile<'_>]) -> u8 {
+    let mut output = Output::new(host);
+    for file in files {
+        let path = file.path;
+        if writeln!(output, "{path}").is_err() {
+            return cannot_write(&mut Errors::new(host.rt)).unwrap_or(4);
+        }
+    }
+    0
 }
