@@ -3,6 +3,8 @@
 The scripts are varied and the runs grouped in code of its own, after docs/exploring.md; what each run gives comes from
 `detio plain --expect`.
 """
+import itertools
+import struct
 import sys
 import tempfile
 from collections.abc import Iterable, Iterator, Sequence
@@ -12,6 +14,7 @@ from detio_tools import model, runs
 
 MASK = 2**64 - 1
 LINES = 1000
+CAUSES = ("clock full", "end of log", "diverged")
 # A run by `detio plain`: by thread its rows, its last line, and the line of its unmet expectation, if it has one.
 Ran = tuple[list[list[str]], str, str | None]
 # A list of delays: thread, line and units of each.
@@ -118,20 +121,93 @@ def is_cut_off(text: str, rows: list[str]) -> bool:
         script.tell(reply)
 
 
-def ending(run: Ran, texts: list[str]) -> str:
-    """How a run ended, and which threads were cut off in it."""
+def is_still(turns: list[model.Turn], thread: int) -> bool:
+    """Whether this thread is blocked at one of the last of these turns, since one at which something may have changed:
+    a call was answered, or waits for the outside, or a write was blocked for the first time since then."""
+    window: list[model.Turn] = []
+    for turn in reversed(turns):
+        if not turn.is_blocked or turn.is_outside:
+            break
+        window.insert(0, turn)
+    since: list[int] = []
+    for at, turn in enumerate(window):
+        is_first = all(it.thread != turn.thread for it in window[:at])
+        since = [] if turn.word == "write" and is_first else [*since, turn.thread]
+    return thread in since
+
+
+def waiting_for_good(turns: list[model.Turn], are_over: list[bool]) -> list[tuple[int, int]]:
+    """The threads whose calls are blocked for good when first all are, each with how many calls of it were answered
+    before; of each thread it is said whether it was over in the end."""
+    for at in range(1, len(turns) + 1):
+        if not turns[at - 1].is_blocked:
+            continue
+        live = [it for it, is_over in enumerate(are_over) if not is_over or any(t.thread == it for t in turns[at:])]
+        if live and all(is_still(turns[:at], it) for it in live):
+            return [(it, sum(t.has_reply for t in turns[:at] if t.thread == it)) for it in live]
+    return []
+
+
+def line_of(text: str, rows: list[str]) -> int:
+    """The number of the line of the call that a thread makes after those of these rows."""
+    script, replies = model.Script(text), map(reply_of, rows)
+    while True:
+        step = script.step()
+        reply = None if step is None or step[0] == "work" else next(replies, ())
+        if step is None or reply == ():
+            break
+        script.tell(reply)
+    numbers = [at for at, line in enumerate(lines_of(text), 1) if line.strip(" ") and not line.startswith("#")]
+    return numbers[script.place - 1]
+
+
+def blocked_lines(
+    run: Ran, varied_texts: list[str], texts: list[str], settings: Sequence[str]
+) -> list[tuple[int, int]]:
+    """The threads whose calls were blocked for good in a run, and their lines in the scripts as they were given: by the
+    turns of the model."""
+    options = dict(zip(settings[::2], map(int, settings[1::2])))
+    header = struct.pack(">HHII", 2, len(texts), options.get("--patience", 1000), options.get("--door-cost", 100))
+    ran = model.Run(model.Log(model.spelled(2, b"DIOL" + header, [])), varied_texts)
+    waiting = waiting_for_good(ran.turns, [it.phase == "ended" for it in ran.threads])
+    return [(thread, line_of(texts[thread], run[0][thread][:row])) for thread, row in waiting]
+
+
+def ending(run: Ran, texts: list[str], blocked: list[tuple[int, int]]) -> str:
+    """How a run ended, which threads were cut off in it, and which calls were blocked for good."""
     rows, end = run[:2]
     cut = [str(thread) for thread, (text, rows_of) in enumerate(zip(texts, rows)) if is_cut_off(text, rows_of)]
-    return end + (f" cut off {','.join(cut)}" if cut else "")
+    waits = ",".join(f"{thread} {line}" for thread, line in blocked)
+    return end + (f" cut off {','.join(cut)}" if cut else "") + (f" blocked for good {waits}" if waits else "")
 
 
-def difference(before: Ran, now: Ran) -> str:
+def is_expected(blocked: list[tuple[int, int]], texts: list[str]) -> bool:
+    """Whether one of these calls is expected to be interrupted."""
+    for thread, number in blocked:
+        below = lines_of(texts[thread])[number:]
+        quiet = itertools.takewhile(lambda line: line.startswith("#") or not line.strip(" "), below)
+        if "#= fail EINTR" in quiet:
+            return True
+    return False
+
+
+def came_to(run: Ran, blocked: list[tuple[int, int]], texts: list[str]) -> str:
+    """What a run came to."""
+    if run[2] is not None:
+        return "failed"
+    if blocked and not is_expected(blocked, texts):
+        return "blocked"
+    return "passed" if run[1] == "end" else "stopped"
+
+
+def difference(before: Ran, blocked: list[tuple[int, int]], group: "Group") -> str:
+    now = group.run
     for thread, (old, new) in enumerate(zip(before[0], now[0])):
         for row in range(max(len(old), len(new))):
             was, is_now = (rows[row] if row < len(rows) else "-" for rows in (old, new))
             if was != is_now:
                 return f"differs {thread} {row} {was} -> {is_now}"
-    return "same" if before[1] == now[1] else "ends otherwise"
+    return "same" if (before[1], blocked) == (now[1], group.blocked) else "ends otherwise"
 
 
 def by_seeds(texts: list[str], seeds: Iterable[int], reach: int) -> Iterator[Case]:
@@ -176,14 +252,16 @@ def by_lists(texts: list[str], lists: Iterable[tuple[int, Delays]]) -> Iterator[
 
 @dataclass
 class Group:
-    """Runs that are the same: the words of the first, how many there are, that run, how it ended, and the line of its
-    unmet expectation."""
+    """Runs that are the same: the words of the first, how many there are, that run, how it ended, the line of its
+    unmet expectation, the calls that were blocked for good, and what it came to."""
 
     words: str
     count: int
     run: Ran
     end: str
     unmet: str
+    blocked: list[tuple[int, int]]
+    came_to: str
 
 
 def grouped(
@@ -196,9 +274,11 @@ def grouped(
             if len(lines_of(text)) > LINES:
                 return 3, "", f"script {thread}: no room for delays\n"
         run = plain(program, varied_texts, settings)
-        key = repr(run[:2])
+        blocked = blocked_lines(run, varied_texts, texts, settings)
+        key = repr((run[:2], blocked))
         if key not in groups:
-            groups[key] = Group(words, 0, run, ending(run, varied_texts), given(run[2], varied_texts, texts))
+            end, unmet = ending(run, varied_texts, blocked), given(run[2], varied_texts, texts)
+            groups[key] = Group(words, 0, run, end, unmet, blocked, came_to(run, blocked, texts))
         groups[key].count += 1
     return list(groups.values())
 
@@ -208,11 +288,23 @@ def explored(
 ) -> runs.Answer:
     """Status, standard output and standard error of `detio explore`, for scripts without a fault and these cases."""
     before = plain(program, texts, settings)
+    if before[1].startswith("stop end of log "):
+        return 2, "", "the scripts go outside, and nothing comes from there: give --log, a log of record\n"
     groups = grouped(program, texts, cases, settings)
     if isinstance(groups, tuple):
         return groups
-    out = [f"as they are {ending(before, texts)}{given(before[2], texts, texts)}\n"]
-    out += [f"{it.words}runs {it.count} {it.end} {difference(before, it.run)}{it.unmet}\n" for it in groups]
-    count, failed = sum(it.count for it in groups), sum(it.count for it in groups if it.unmet)
-    out.append(f"runs {count} groups {len(groups)} failed {failed}{left}\n")
-    return 1 if failed or before[2] else 0, "".join(out), ""
+    blocked = blocked_lines(before, texts, texts, settings)
+    all_came_to = {came_to(before, blocked, texts), *(it.came_to for it in groups)}
+    out = [f"as they are {ending(before, texts, blocked)}{given(before[2], texts, texts)}\n"]
+    out += [f"{it.words}runs {it.count} {it.end} {difference(before, blocked, it)}{it.unmet}\n" for it in groups]
+    out.append(f"runs {sum(it.count for it in groups)} groups {len(groups)}{sums(groups)}{left}\n")
+    return 0 if all_came_to == {"passed"} else 1, "".join(out), ""
+
+
+def sums(groups: list[Group]) -> str:
+    """How many runs failed, stopped, by their reasons too, and were blocked."""
+    def counted(word: str, cause: str = "") -> int:
+        end = f"stop {cause}" if cause else ""
+        return sum(it.count for it in groups if it.came_to == word and it.run[1].startswith(end))
+    causes = "".join(f" {it} {count}" for it in CAUSES if (count := counted("stopped", it)))
+    return f" failed {counted('failed')} stopped {counted('stopped')}{causes} blocked {counted('blocked')}"

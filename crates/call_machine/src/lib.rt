@@ -22,6 +22,7 @@
 //! let settings = Settings {
 //!     patience: 1000,
 //!     door_cost: 100,
+//!     version: 2,
 //! };
 //! let plain = plain_run(alloc, scripts, outcomes, settings)?;
 //! assert!(rt; plain.stop.is_none());

@@ -10,7 +10,7 @@
 //! use call_operands::{OperandValue, operands};
 //! use posix_terms::Call;
 //!
-//! let call = Call::Read { descriptor: 3, count: 9 };
+//! let call: Call = Call::Read { descriptor: 3, count: 9 };
 //! if let Some(operand) = operands(&call).second {
 //!     assert!(rt; operand.name == "count");
 //!     assert!(rt; matches!(operand.value, OperandValue::Number(9)));
