@@ -22,6 +22,38 @@ EXPORT int clock_gettime(clockid_t clock, struct timespec *to) {
   }
   return (int)asks(ASK_CLOCK, 0, NULL, clock, to, sizeof *to);
 }
+EXPORT int clock_getres(clockid_t clock, struct timespec *to) {
+  NEXT(clock_getres);
+  OFF(next(clock, to));
+  struct timespec found;
+  if (asks(ASK_RESOLUTION, 0, NULL, clock, &found, sizeof found)) return -1;
+  if (to) *to = found;
+  return 0;
+}
+EXPORT int timespec_getres(struct timespec *to, int base) {
+  return base == TIME_UTC && !clock_getres(CLOCK_REALTIME, to) ? base : 0;
+}
+/* A clock of this process or thread has a name that is the same in each run; those of others have their numbers. */
+EXPORT int clock_getcpuclockid(pid_t pid, clockid_t *to) {
+  NEXT(clock_getcpuclockid);
+  OFF(next(pid, to));
+  if (pid && pid != getpid()) {
+    once("clock_getcpuclockid", "clock_getcpuclockid of another process is not covered: refused");
+    return ENOSYS;
+  }
+  *to = CLOCK_PROCESS_CPUTIME_ID;
+  return 0;
+}
+EXPORT int pthread_getcpuclockid(pthread_t thread, clockid_t *to) {
+  NEXT(pthread_getcpuclockid);
+  OFF(next(thread, to));
+  if (!pthread_equal(thread, pthread_self())) {
+    once("pthread_getcpuclockid", "pthread_getcpuclockid of another thread is not covered: refused");
+    return ENOSYS;
+  }
+  *to = CLOCK_THREAD_CPUTIME_ID;
+  return 0;
+}
 EXPORT time_t time(time_t *to) {
   struct timespec t = {0, 0};
   (void)clock_gettime(CLOCK_REALTIME, &t);
@@ -154,6 +186,11 @@ EXPORT int sched_getaffinity(pid_t pid, size_t size, cpu_set_t *to) {
   memset((char *)to + there, 0, room - there);
   return 0;
 }
+EXPORT int pthread_getaffinity_np(pthread_t thread, size_t size, cpu_set_t *to) {
+  NEXT(pthread_getaffinity_np);
+  OFF(next(thread, size, to));
+  return sched_getaffinity(0, size, to) ? errno : 0;
+}
 static int processors(void) {
   cpu_set_t set;
   return sched_getaffinity(0, sizeof set, &set) ? 1 : CPU_COUNT(&set);
@@ -161,6 +198,13 @@ static int processors(void) {
 EXPORT int sched_getcpu(void) {
   NEXT(sched_getcpu);
   OFF(next());
+  return 0;
+}
+EXPORT int getcpu(unsigned *processor, unsigned *node) {
+  NEXT(getcpu);
+  OFF(next(processor, node));
+  if (processor) *processor = 0;
+  if (node) *node = 0;
   return 0;
 }
 EXPORT int get_nprocs(void) {
@@ -189,6 +233,7 @@ EXPORT long sysconf(int what) {
   switch (what) {
   case _SC_NPROCESSORS_ONLN:
   case _SC_NPROCESSORS_CONF: return processors();
+  case _SC_OPEN_MAX: return ORACLE;
   case _SC_PHYS_PAGES: return pages(false);
   case _SC_AVPHYS_PAGES: return pages(true);
   default: return next(what);

@@ -355,6 +355,27 @@ EXPORT ssize_t pwritev(int fd, const struct iovec *parts, int count, off_t at) {
 EXPORT ssize_t pwritev64(int fd, const struct iovec *parts, int count, off_t at) {
   return pwritev(fd, parts, count, at);
 }
+/* .. in one of the ways that flags say: in none of them. */
+EXPORT ssize_t preadv2(int fd, const struct iovec *parts, int count, off_t at, int how) {
+  NEXT(preadv2);
+  OFF(next(fd, parts, count, at, how));
+  if (!is_ours(fd)) return next(fd, parts, count, at, how);
+  if (how) return errno = EOPNOTSUPP, -1;
+  return at == -1 ? readv(fd, parts, count) : preadv(fd, parts, count, at);
+}
+EXPORT ssize_t pwritev2(int fd, const struct iovec *parts, int count, off_t at, int how) {
+  NEXT(pwritev2);
+  OFF(next(fd, parts, count, at, how));
+  if (!is_ours(fd)) return next(fd, parts, count, at, how);
+  if (how) return errno = EOPNOTSUPP, -1;
+  return at == -1 ? writev(fd, parts, count) : pwritev(fd, parts, count, at);
+}
+EXPORT ssize_t preadv64v2(int fd, const struct iovec *parts, int count, off_t at, int how) {
+  return preadv2(fd, parts, count, at, how);
+}
+EXPORT ssize_t pwritev64v2(int fd, const struct iovec *parts, int count, off_t at, int how) {
+  return pwritev2(fd, parts, count, at, how);
+}
 /* .. but what is written together stays together. */
 EXPORT ssize_t writev(int fd, const struct iovec *parts, int count) {
   NEXT(writev);
@@ -424,6 +445,7 @@ EXPORT int fallocate64(int fd, int how, off_t from, off_t count) { return falloc
 ON_HOST(fsync, (int fd), (fd), ASK_FSYNC, 0, 0)
 ON_HOST(fdatasync, (int fd), (fd), ASK_FSYNC, 1, 0)
 ON_HOST(syncfs, (int fd), (fd), ASK_FSYNC, 0, 0)
+ON_HOST(sync_file_range, (int fd, off64_t from, off64_t count, unsigned how), (fd, from, count, how), ASK_FSYNC, 1, 0)
 ON_HOST(fchmod, (int fd, mode_t mode), (fd, mode), ASK_FCHMOD, mode, 0)
 ON_HOST(fchown, (int fd, uid_t user, gid_t group), (fd, user, group), ASK_FCHOWN, user, group)
 /* A lock that waits is asked for again each 2 milliseconds, so that it holds nobody up. */
@@ -530,9 +552,16 @@ static int lock_record(int fd, int what, struct flock *lock) {
   bool waits = what == F_SETLKW || what == F_OFD_SETLKW;
   int how = what == F_SETLKW ? F_SETLK : what == F_OFD_SETLKW ? F_OFD_SETLK : what;
   if (opened_at(fd)->kind != HOST) return errno = EINVAL, -1;
+  struct flock asked; /* what is between its fields is by chance */
+  memset(&asked, 0, sizeof asked);
+  asked.l_type = lock->l_type;
+  asked.l_whence = lock->l_whence;
+  asked.l_start = lock->l_start;
+  asked.l_len = lock->l_len;
+  asked.l_pid = lock->l_pid;
   for (;;) {
-    int r = (int)ask(&(question){.what = ASK_LOCKED, .at = opened_at(fd)->real, .a = how, .bytes = lock,
-                                 .length = sizeof *lock, .room = sizeof *lock}, lock, NULL);
+    int r = (int)ask(&(question){.what = ASK_LOCKED, .at = opened_at(fd)->real, .a = how, .bytes = &asked,
+                                 .length = sizeof asked, .room = sizeof asked}, lock, NULL);
     if (!r || !waits || (errno != EAGAIN && errno != EACCES)) return r;
     wait_a_little();
   }
@@ -588,6 +617,26 @@ EXPORT int isatty(int fd) {
   OFF(next(fd));
   char settings_of_terminal[60];
   return is_ours(fd) ? ioctl(fd, TCGETS, settings_of_terminal) == 0 : next(fd);
+}
+
+EXPORT int lockf(int fd, int what, off_t count) {
+  NEXT(lockf);
+  OFF(next(fd, what, count));
+  struct flock lock = {.l_type = what == F_ULOCK ? F_UNLCK : what == F_TEST ? F_RDLCK : F_WRLCK, .l_whence = SEEK_CUR,
+                       .l_len = count};
+  switch (what) {
+  case F_TEST:
+    if (fcntl(fd, F_GETLK, &lock) < 0) return -1;
+    return lock.l_type == F_UNLCK || lock.l_pid == getpid() ? 0 : (errno = EACCES, -1);
+  case F_LOCK: return fcntl(fd, F_SETLKW, &lock);
+  case F_ULOCK: case F_TLOCK: return fcntl(fd, F_SETLK, &lock);
+  default: return errno = EINVAL, -1;
+  }
+}
+EXPORT int lockf64(int fd, int what, off_t count) { return lockf(fd, what, count); }
+EXPORT int isfdtype(int fd, int type) {
+  struct stat status;
+  return fstat(fd, &status) ? -1 : (status.st_mode & S_IFMT) == (mode_t)type;
 }
 
 /* Pipes and pairs, in memory. */
@@ -655,6 +704,11 @@ EXPORT int __poll_chk(struct pollfd *fds, nfds_t count, int millis, size_t room)
 }
 static int64_t nanos_of(const struct timespec *time) {
   return time ? time->tv_sec * (int64_t)1000000000 + time->tv_nsec : -1;
+}
+EXPORT int __ppoll_chk(struct pollfd *fds, nfds_t count, const struct timespec *time, const sigset_t *mask,
+                       size_t room) {
+  if (count * sizeof *fds > room) abort();
+  return ppoll(fds, count, time, mask);
 }
 EXPORT int ppoll(struct pollfd *fds, nfds_t count, const struct timespec *time, const sigset_t *mask) {
   NEXT(ppoll);

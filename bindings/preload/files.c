@@ -3,7 +3,9 @@
 #define _GNU_SOURCE
 #include "preload.h"
 
+#include <execinfo.h>
 #include <fcntl.h>
+#include <limits.h>
 #include <stdio.h>
 #include <stdio_ext.h>
 #include <stdlib.h>
@@ -12,6 +14,8 @@
 
 /* Names that the headers have as macros too. */
 #undef feof_unlocked
+#undef ferror_unlocked
+#undef clearerr_unlocked
 #undef fwrite_unlocked
 #undef fread_unlocked
 
@@ -200,6 +204,10 @@ HELD(off_t, ftello, (FILE * f), f, (f))
 HELD(off64_t, ftello64, (FILE * f), f, (f))
 HELD(int, fgetpos, (FILE * f, fpos_t *to), f, (f, to))
 HELD(int, fsetpos, (FILE * f, const fpos_t *to), f, (f, to))
+HELD(int, fgetpos64, (FILE * f, fpos64_t *to), f, (f, to))
+HELD(int, fsetpos64, (FILE * f, const fpos64_t *to), f, (f, to))
+HELD(int, getw, (FILE * f), f, (f))
+HELD(int, putw, (int w, FILE *f), f, (w, f))
 HELD(int, setvbuf, (FILE * f, char *b, int how, size_t n), f, (f, b, how, n))
 HELD(int, feof, (FILE * f), f, (f))
 HELD(int, ferror, (FILE * f), f, (f))
@@ -211,6 +219,8 @@ HELD(int, fputc_unlocked, (int c, FILE *f), f, (c, f))
 HELD(int, putc_unlocked, (int c, FILE *f), f, (c, f))
 HELD(int, fgetc_unlocked, (FILE * f), f, (f))
 HELD(int, getc_unlocked, (FILE * f), f, (f))
+HELD(int, feof_unlocked, (FILE * f), f, (f))
+HELD(int, ferror_unlocked, (FILE * f), f, (f))
 
 EXPORT int fflush(FILE *file) {
   NEXT(fflush);
@@ -238,6 +248,8 @@ HELD_VOID(rewind, (FILE * f), f, (f))
 HELD_VOID(clearerr, (FILE * f), f, (f))
 HELD_VOID(setbuf, (FILE * f, char *b), f, (f, b))
 HELD_VOID(setlinebuf, (FILE * f), f, (f))
+HELD_VOID(setbuffer, (FILE * f, char *b, size_t n), f, (f, b, n))
+HELD_VOID(clearerr_unlocked, (FILE * f), f, (f))
 EXPORT void flockfile(FILE *file) {
   NEXT(flockfile);
   stream *s = takes_part() ? stream_of(ours(file)) : NULL;
@@ -263,6 +275,24 @@ EXPORT int puts(const char *text) {
   stream *held = hold(stdout);
   int r = next(text);
   let_go(held);
+  return r;
+}
+/* New headers do not have it. */
+EXPORT char *read_line(char *) __asm__("gets");
+char *read_line(char *to) {
+  static char *(*next)(char *);
+  if (!next) next = (char *(*)(char *))dlsym(RTLD_NEXT, "gets");
+  OFF(next(to));
+  stream *held = hold(stdin);
+  char *r = next(to);
+  let_go(held);
+  return r;
+}
+EXPORT char *__gets_chk(char *to, size_t room) {
+  char *r = fgets(to, room > INT_MAX ? INT_MAX : (int)room, stdin);
+  size_t length = r ? strlen(r) : 0;
+  if (length && r[length - 1] == '\n') r[length - 1] = 0;
+  else if (length + 1 == room) abort();
   return r;
 }
 EXPORT int putchar(int c) { return putc(c, stdout); }
@@ -303,6 +333,8 @@ EXPORT int __fprintf_chk(FILE *f, int k, const char *s, ...) WITH_ARGUMENTS(s, (
   int own given call
 SCANS(scan, "vfscanf")
 SCANS(scan99, "__isoc99_vfscanf")
+SCANS_AS(scan_old, "_IO_vfscanf", (FILE * f, const char *s, va_list a, int *error),
+         { int r = scan(f, s, a); return error ? (*error = r == EOF, r) : r; })
 SCANS_AS(scan_input, "vscanf", (const char *s, va_list a), { return scan(stdin, s, a); })
 SCANS_AS(scan_input99, "__isoc99_vscanf", (const char *s, va_list a), { return scan99(stdin, s, a); })
 SCANS_AS(scan_file, "fscanf", (FILE * f, const char *s, ...), WITH_ARGUMENTS(s, scan(f, s, a)))
@@ -317,6 +349,10 @@ EXPORT size_t __fread_chk(void *b, size_t room, size_t n, size_t m, FILE *f) {
 EXPORT char *__fgets_chk(char *b, size_t room, int n, FILE *f) {
   if (n > 0 && (size_t)n > room) abort();
   return fgets(b, n, f);
+}
+EXPORT char *__fgets_unlocked_chk(char *b, size_t room, int n, FILE *f) { return __fgets_chk(b, room, n, f); }
+EXPORT size_t __fread_unlocked_chk(void *b, size_t room, size_t n, size_t m, FILE *f) {
+  return __fread_chk(b, room, n, m, f);
 }
 
 /* A line straight to a descriptor. */
@@ -333,6 +369,16 @@ EXPORT int vdprintf(int fd, const char *s, va_list a) {
 EXPORT int dprintf(int fd, const char *s, ...) WITH_ARGUMENTS(s, vdprintf(fd, s, a))
 EXPORT int __dprintf_chk(int fd, int k, const char *s, ...) WITH_ARGUMENTS(s, ((void)k, vdprintf(fd, s, a)))
 EXPORT int __vdprintf_chk(int fd, int k, const char *s, va_list a) { return (void)k, vdprintf(fd, s, a); }
+EXPORT void backtrace_symbols_fd(void *const *from, int count, int fd) {
+  NEXT(backtrace_symbols_fd);
+  if (!takes_part() || !is_ours(fd)) {
+    next(from, count, fd);
+    return;
+  }
+  char **names = backtrace_symbols(from, count);
+  for (int i = 0; names && i < count; i++) dprintf(fd, "%s\n", names[i]);
+  free(names);
+}
 EXPORT void perror(const char *before) {
   const char *text = strerror(errno);
   fprintf(stderr, "%s%s%s\n", before && *before ? before : "", before && *before ? ": " : "", text);

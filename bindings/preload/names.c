@@ -97,6 +97,10 @@ ON_PATH(int, mknod, (const char *p, mode_t mode, dev_t d), (p, mode, d), p, not_
         Q(.what = ASK_MKNOD, .at = AT_FDCWD, .path = p, .a = mode, .b = (int64_t)d))
 ON_PATH(int, mkfifo, (const char *p, mode_t mode), (p, mode), p, not_there(),
         Q(.what = ASK_MKNOD, .at = AT_FDCWD, .path = p, .a = S_IFIFO | mode))
+ON_PATH(int, mknodat, (int at, const char *p, mode_t mode, dev_t d), (at, p, mode, d), p, not_there(),
+        Q(.what = ASK_MKNOD, .at = base(at, p), .path = p, .a = mode, .b = (int64_t)d))
+ON_PATH(int, mkfifoat, (int at, const char *p, mode_t mode), (at, p, mode), p, not_there(),
+        Q(.what = ASK_MKNOD, .at = base(at, p), .path = p, .a = S_IFIFO | mode))
 
 EXPORT int renameat2(int a, const char *p, int b, const char *q, unsigned how) {
   NEXT(renameat2);
@@ -173,6 +177,14 @@ static int set_times(const char *p, const struct timeval t[2], int f) {
 }
 EXPORT int utimes(const char *p, const struct timeval t[2]) { return set_times(p, t, 0); }
 EXPORT int lutimes(const char *p, const struct timeval t[2]) { return set_times(p, t, AT_SYMLINK_NOFOLLOW); }
+EXPORT int futimesat(int at, const char *p, const struct timeval t[2]) {
+  NEXT(futimesat);
+  OFF(next(at, p, t));
+  if (!p) return futimes(at, t);
+  struct timespec of[2];
+  for (int i = 0; t && i < 2; i++) of[i] = (struct timespec){t[i].tv_sec, t[i].tv_usec * 1000};
+  return utimensat(at, p, t ? of : NULL, 0);
+}
 EXPORT int utime(const char *p, const struct utimbuf *t) {
   struct timespec times[2] = {{t ? t->actime : 0, 0}, {t ? t->modtime : 0, 0}};
   return utimensat(AT_FDCWD, p, t ? times : NULL, 0);
@@ -379,6 +391,15 @@ EXPORT ssize_t flistxattr(int fd, char *to, size_t room) {
                                      : attribute(ASK_FLISTXATTR, real_of(fd), NULL, NULL, to, room, 0);
 }
 
+/* Of a link there is no mode to change. */
+EXPORT int lchmod(const char *p, mode_t mode) {
+  NEXT(lchmod);
+  OFF(next(p, mode));
+  struct stat status;
+  if (lstat(p, &status)) return -1;
+  return S_ISLNK(status.st_mode) ? (errno = EOPNOTSUPP, -1) : chmod(p, mode);
+}
+
 /* Where we are. */
 EXPORT int chdir(const char *p) {
   NEXT(chdir);
@@ -406,6 +427,8 @@ EXPORT char *__getcwd_chk(char *to, size_t room, size_t has) {
   if (room > has) abort();
   return getcwd(to, room);
 }
+EXPORT char *getwd(char *to) { return to ? getcwd(to, PATH_MAX) : (errno = EINVAL, NULL); }
+EXPORT char *__getwd_chk(char *to, size_t has) { return __getcwd_chk(to, PATH_MAX < has ? PATH_MAX : has, has); }
 
 static ssize_t read_link(int at, const char *p, char *to, size_t room) {
   char path[PATH_MAX];
@@ -644,9 +667,9 @@ EXPORT int closedir(DIR *d) {
   free(d);
   return r;
 }
-static int scan(const char *p, struct dirent ***list, int (*takes)(const struct dirent *),
-                int (*order)(const struct dirent **, const struct dirent **)) {
-  DIR *d = opendir(p);
+typedef int takes_entry(const struct dirent *);
+typedef int orders_entries(const struct dirent **, const struct dirent **);
+static int scan(DIR *d, struct dirent ***list, takes_entry *takes, orders_entries *order) {
   struct dirent **found = NULL;
   int count = 0, room = 0;
   if (!d) return -1;
@@ -661,16 +684,24 @@ static int scan(const char *p, struct dirent ***list, int (*takes)(const struct 
   *list = found;
   return count;
 }
-EXPORT int scandir(const char *p, struct dirent ***list, int (*takes)(const struct dirent *),
-                   int (*order)(const struct dirent **, const struct dirent **)) {
+EXPORT int scandir(const char *p, struct dirent ***list, takes_entry *takes, orders_entries *order) {
   NEXT(scandir);
   OFF(next(p, list, takes, order));
-  return asked_of_us(p) ? scan(p, list, takes, order) : next(p, list, takes, order);
+  return asked_of_us(p) ? scan(opendir(p), list, takes, order) : next(p, list, takes, order);
 }
-EXPORT int scandir64(const char *p, struct dirent64 ***list, int (*takes)(const struct dirent64 *),
-                     int (*order)(const struct dirent64 **, const struct dirent64 **)) {
-  return scandir(p, (struct dirent ***)list, (int (*)(const struct dirent *))takes,
-                 (int (*)(const struct dirent **, const struct dirent **))order);
+typedef int takes_entry64(const struct dirent64 *);
+typedef int orders_entries64(const struct dirent64 **, const struct dirent64 **);
+EXPORT int scandir64(const char *p, struct dirent64 ***list, takes_entry64 *takes, orders_entries64 *order) {
+  return scandir(p, (struct dirent ***)list, (takes_entry *)takes, (orders_entries *)order);
+}
+EXPORT int scandirat(int at, const char *p, struct dirent ***list, takes_entry *takes, orders_entries *order) {
+  NEXT(scandirat);
+  OFF(next(at, p, list, takes, order));
+  int fd = openat(at, p, O_RDONLY | O_DIRECTORY | O_CLOEXEC);
+  return fd < 0 ? -1 : scan(fdopendir(fd), list, takes, order);
+}
+EXPORT int scandirat64(int at, const char *p, struct dirent64 ***list, takes_entry64 *takes, orders_entries64 *order) {
+  return scandirat(at, p, (struct dirent ***)list, (takes_entry *)takes, (orders_entries *)order);
 }
 
 /* The C library looks for names by what it is given in place of its own calls: by ours. */

@@ -77,14 +77,26 @@ static long kind_of(int fd) {
   return r < 0 ? r : (long)(status.st_mode & S_IFMT);
 }
 
-/* What has a number of the process alone. */
-static long number(long which) {
+/* What has a number, of this process or of one that is given. */
+static long number(long which, int64_t given) {
   switch (which) {
-  case SYS_getpid: return KERNEL(SYS_getpid, 0);
-  case SYS_getppid: return KERNEL(SYS_getppid, 0);
-  case SYS_gettid: return KERNEL(SYS_gettid, 0);
+  case SYS_getpid: case SYS_getppid: case SYS_gettid: case SYS_getuid: case SYS_geteuid: case SYS_getgid:
+  case SYS_getegid: case SYS_getpgrp: case SYS_getpgid: case SYS_getsid: case SYS_setsid: case SYS_umask:
+    return KERNEL(which, given);
+  case SYS_setpgid: return KERNEL(SYS_setpgid, (int32_t)given, given >> 32);
   default: return -ENOSYS;
   }
+}
+/* .. and what has several. */
+static long numbers(long which, int64_t given, uint8_t *out) {
+  return which == SYS_getgroups ? KERNEL(SYS_getgroups, given, out) : KERNEL(which, out, out + 4, out + 8);
+}
+
+/* A limit, as the C library has it: none is -1, and no error. */
+static long path_limit(const question *q) {
+  errno = 0;
+  long limit = q->at < 0 ? pathconf(q->path, (int)q->a) : fpathconf(q->at, (int)q->a);
+  return limit >= 0 ? limit : errno ? -errno : -(1L << 32);
 }
 
 /* Asks the host about names. */
@@ -157,7 +169,10 @@ static long ask_host(const question *q, uint8_t *out) {
   case ASK_KIND: return kind_of(q->at);
   case ASK_CLOCK: return KERNEL(SYS_clock_gettime, q->a, out);
   case ASK_RANDOM: return KERNEL(SYS_getrandom, out, q->room, q->a);
-  case ASK_NUMBER: return number((long)q->a);
+  case ASK_RESOLUTION: return KERNEL(SYS_clock_getres, q->a, out);
+  case ASK_NUMBER: return number((long)q->a, q->b);
+  case ASK_NUMBERS: return numbers((long)q->a, q->b, out);
+  case ASK_PATHCONF: return path_limit(q);
   case ASK_KILL: return KERNEL(SYS_kill, q->a, q->b);
   case ASK_CHILD: return ((long (*)(const void *))(intptr_t)q->b)(q->bytes);
   case ASK_SYSINFO: return KERNEL(SYS_sysinfo, out);

@@ -89,6 +89,21 @@ EXPORT int pause(void) {
   (void)pthread_sigmask(SIG_BLOCK, NULL, &set);
   return sigsuspend(&set);
 }
+/* The two that have this name: of a set of signals, and of one signal. */
+EXPORT int pause_for_set(int set) __asm__("sigpause");
+int pause_for_set(int set) {
+  sigset_t all;
+  sigemptyset(&all);
+  memcpy(&all, &set, sizeof set);
+  return sigsuspend(&all);
+}
+EXPORT int pause_for_one(int number) __asm__("__xpg_sigpause");
+int pause_for_one(int number) {
+  sigset_t all;
+  (void)pthread_sigmask(SIG_BLOCK, NULL, &all);
+  return sigdelset(&all, number) ? -1 : sigsuspend(&all);
+}
+EXPORT int __sigpause(int given, int is_one) { return is_one ? pause_for_one(given) : pause_for_set(given); }
 EXPORT int sigpending(sigset_t *set) {
   NEXT(sigpending);
   OFF(next(set));
@@ -117,9 +132,23 @@ EXPORT int sigqueue(pid_t to, int number, const union sigval value) {
   long r = KERNEL(SYS_rt_sigqueueinfo, KERNEL(SYS_getpid, 0), number, &about);
   return r < 0 ? (errno = (int)-r, -1) : 0;
 }
+EXPORT int killpg(pid_t group, int number) {
+  NEXT(killpg);
+  OFF(next(group, number));
+  return group < 0 ? (errno = EINVAL, -1) : kill(-group, number);
+}
 EXPORT int raise(int number) {
   long r = KERNEL(SYS_tgkill, KERNEL(SYS_getpid, 0), KERNEL(SYS_gettid, 0), number);
   return r < 0 ? (errno = (int)-r, -1) : 0;
+}
+
+/* A thread is known by its number in the recording, which is another thread's in a rerun. */
+EXPORT int tgkill(pid_t process, pid_t thread, int number) {
+  NEXT(tgkill);
+  OFF(next(process, thread, number));
+  if (process == getpid() && thread == gettid()) return raise(number);
+  once("tgkill", "tgkill to another thread is not covered: refused");
+  return errno = ENOSYS, -1;
 }
 
 /* The process ends at a turn. */
@@ -227,26 +256,33 @@ EXECUTES(execv, (const char *p, char *const a[]), (p, a))
 EXECUTES(execvp, (const char *p, char *const a[]), (p, a))
 EXECUTES(execvpe, (const char *p, char *const a[], char *const e[]), (p, a, e))
 EXECUTES(fexecve, (int f, char *const a[], char *const e[]), (f, a, e))
+EXECUTES(execveat, (int at, const char *p, char *const a[], char *const e[], int how), (at, p, a, e, how))
+EXECUTES(daemon, (int stays, int speaks), (stays, speaks))
 
-/* What makes descriptors that the machine does not have: refused, in a run and in a rerun. */
-#define MAKES(name, given, passed)                               \
-  EXPORT int name given {                                        \
-    static int(*next) given;                                     \
-    if (!next) next = (int(*) given)dlsym(RTLD_NEXT, #name);     \
-    OFF(next passed);                                            \
-    once(#name, "%s is not covered: refused", #name);            \
-    return errno = ENOSYS, -1;                                   \
-  }
-MAKES(epoll_create, (int n), (n))
-MAKES(epoll_create1, (int flags), (flags))
-MAKES(eventfd, (unsigned value, int flags), (value, flags))
-MAKES(timerfd_create, (int clock, int flags), (clock, flags))
-MAKES(signalfd, (int fd, const sigset_t *set, int flags), (fd, set, flags))
-MAKES(inotify_init, (void), ())
-MAKES(inotify_init1, (int flags), (flags))
-MAKES(fanotify_init, (unsigned flags, unsigned how), (flags, how))
-MAKES(memfd_create, (const char *name, unsigned flags), (name, flags))
-MAKES(shm_open, (const char *name, int how, mode_t mode), (name, how, mode))
-MAKES(shm_unlink, (const char *name), (name))
-MAKES(mount, (const char *a, const char *b, const char *c, unsigned long d, const void *e), (a, b, c, d, e))
-MAKES(pidfd_open, (pid_t pid, unsigned flags), (pid, flags))
+/* Words one by one, up to NULL: `words` has them, and `rest` is after them. */
+#define GATHER(first)                                                     \
+  va_list rest, again;                                                    \
+  va_start(rest, first);                                                  \
+  va_copy(again, rest);                                                   \
+  size_t count = 0;                                                       \
+  for (const char *word = first; word; word = va_arg(again, const char *)) count++; \
+  va_end(again);                                                          \
+  char *words[count + 1];                                                 \
+  words[0] = (char *)first;                                               \
+  for (size_t i = 1; i <= count; i++) words[i] = va_arg(rest, char *)
+EXPORT int execl(const char *path, const char *first, ...) {
+  GATHER(first);
+  va_end(rest);
+  return execv(path, words);
+}
+EXPORT int execlp(const char *path, const char *first, ...) {
+  GATHER(first);
+  va_end(rest);
+  return execvp(path, words);
+}
+EXPORT int execle(const char *path, const char *first, ...) {
+  GATHER(first);
+  char *const *variables = va_arg(rest, char *const *);
+  va_end(rest);
+  return execve(path, words, variables);
+}

@@ -71,6 +71,9 @@ EXPORT wchar_t *__fgetws_chk(wchar_t *to, size_t has, int room, FILE *f) {
   if (room > 0 && (size_t)room > has) abort();
   return fgetws(to, room, f);
 }
+EXPORT wchar_t *__fgetws_unlocked_chk(wchar_t *to, size_t has, int room, FILE *f) {
+  return __fgetws_chk(to, has, room, f);
+}
 EXPORT wint_t ungetwc(wint_t c, FILE *f) {
   NEXT(ungetwc);
   char bytes[MB_LEN_MAX];
@@ -115,3 +118,25 @@ EXPORT int fwprintf(FILE *f, const wchar_t *s, ...) WITH_ARGUMENTS(s, vfwprintf(
 EXPORT int wprintf(const wchar_t *s, ...) WITH_ARGUMENTS(s, vfwprintf(stdout, s, a))
 EXPORT int __fwprintf_chk(FILE *f, int k, const wchar_t *s, ...) WITH_ARGUMENTS(s, ((void)k, vfwprintf(f, s, a)))
 EXPORT int __wprintf_chk(int k, const wchar_t *s, ...) WITH_ARGUMENTS(s, ((void)k, vfwprintf(stdout, s, a)))
+
+/* Wide characters are not scanned from a FILE of ours. */
+#define SCANS_WIDE(own, symbol)                                                                        \
+  EXPORT int own(FILE *f, const wchar_t *s, va_list a) __asm__(symbol);                                \
+  int own(FILE *f, const wchar_t *s, va_list a) {                                                      \
+    static int (*next)(FILE *, const wchar_t *, va_list);                                              \
+    if (!next) next = (int (*)(FILE *, const wchar_t *, va_list))dlsym(RTLD_NEXT, symbol);             \
+    if (!is_stream(&f)) return next(f, s, a);                                                          \
+    once("wscanf", "wscanf and its like are not covered: refused");                                    \
+    return errno = ENOSYS, EOF;                                                                        \
+  }
+#define SCANS_WIDE_AS(own, symbol, given, call) \
+  EXPORT int own given __asm__(symbol);         \
+  int own given call
+SCANS_WIDE(scan, "vfwscanf")
+SCANS_WIDE(scan99, "__isoc99_vfwscanf")
+SCANS_WIDE_AS(scan_input, "vwscanf", (const wchar_t *s, va_list a), { return scan(stdin, s, a); })
+SCANS_WIDE_AS(scan_input99, "__isoc99_vwscanf", (const wchar_t *s, va_list a), { return scan99(stdin, s, a); })
+SCANS_WIDE_AS(scan_file, "fwscanf", (FILE * f, const wchar_t *s, ...), WITH_ARGUMENTS(s, scan(f, s, a)))
+SCANS_WIDE_AS(scan_file99, "__isoc99_fwscanf", (FILE * f, const wchar_t *s, ...), WITH_ARGUMENTS(s, scan99(f, s, a)))
+SCANS_WIDE_AS(scan_words, "wscanf", (const wchar_t *s, ...), WITH_ARGUMENTS(s, scan(stdin, s, a)))
+SCANS_WIDE_AS(scan_words99, "__isoc99_wscanf", (const wchar_t *s, ...), WITH_ARGUMENTS(s, scan99(stdin, s, a)))

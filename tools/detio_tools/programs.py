@@ -5,6 +5,7 @@ import re
 import shutil
 import signal
 import subprocess
+import tempfile
 import threading
 import time
 import urllib.request
@@ -59,6 +60,9 @@ CASES = (
     Case("names", ("@names",), input="input.txt"),
     Case("files", ("@files",), input="input.txt"),
     Case("wide", ("@wide",), input="input.txt"),
+    Case("identity", ("@identity",), input="input.txt"),
+    Case("others", ("@others",), input="input.txt", stdin=True),
+    Case("uncovered", ("@uncovered",), native=False),
     Case("locks", ("@locks",)),
     Case("threads", ("@threads",)),
     Case("sockets", ("@sockets",)),
@@ -494,7 +498,7 @@ def children(trial: Trial) -> None:
     """A recording starts other processes, and a rerun none."""
     folder = trial.room / "children"
     make_inputs(folder)
-    for way in range(11):
+    for way in range(16):
         run = trial.run("../children.log", str(trial.room / "programs/children"), str(way), folder=folder)
         there = (folder / "made.txt").exists()
         wanted = (4, False) if way == 10 else (0, True)
@@ -503,6 +507,28 @@ def children(trial: Trial) -> None:
         again = trial.rerun("../children.log", folder=folder)
         trial.check(again.status == (4 if way == 10 else 3), f"children {way}: rerun: {again.status} {again.ours()}")
         trial.check(not (folder / "made.txt").exists(), f"children {way}: a rerun starts a program")
+
+
+def other_user(trial: Trial) -> None:
+    """A rerun by another user has the numbers of the recording's."""
+    if os.geteuid() or not shutil.which("setpriv"):
+        trial.leaves_out("root with setpriv", 2)
+        return
+    folder = trial.room / "other-user"
+    make_inputs(folder)
+    words = ("run", "--log", "user.log", "--force", "--", "/usr/bin/id", "-u")
+    run = trial.launch(str(trial.library / "detio-launch"), *words, folder=folder)
+    trial.check((run.status, run.out) == (0, b"0\n"), f"other user: {run.status} {run.out!r} {run.ours()}")
+    log = (folder / "user.log").read_bytes()
+    with tempfile.TemporaryDirectory() as room:
+        copy = pathlib.Path(room) / "user.log"
+        os.chmod(room, 0o755)
+        copy.write_bytes(log)
+        for name in "detio-launch", "libdetio_preload.so":
+            shutil.copy(trial.library / name, room)
+        again = trial.launch("setpriv", "--reuid", "65534", f"{room}/detio-launch", "rerun", "--log", str(copy),
+                             folder=pathlib.Path("/"))
+    trial.check((again.status, again.out) == (0, b"0\n"), f"other user: rerun {again.status} {again.out!r} {again.ours()}")
 
 
 def compiles(words: list[str]) -> bool:
@@ -690,6 +716,6 @@ def compare_table(trial: Trial) -> None:
 
 OTHERS: dict[str, Callable[[Trial], None]] = {
     "table": compare_table, "closed": closed_program, "killed": killed, "differing": differing, "statuses":
-    statuses, "stuck": stuck, "net": net, "passed": passed, "faults": faults, "seeds": seeds, "children": children,
+    statuses, "stuck": stuck, "net": net, "passed": passed, "faults": faults, "own-identity": other_user, "seeds": seeds, "children": children,
     "units": units, "sanitizers": sanitizers, "addresses": addresses, "few": few_addresses, "in-turn": in_turn,
     "numbers": closed_numbers, "hang": hang_of_pigz, "server": server, "web": web_server}

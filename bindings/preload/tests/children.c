@@ -1,4 +1,4 @@
-/* children N: starts a program in one of ten ways, or ends at once. The status is 3 where that was refused. */
+/* children N: starts a program in one of fourteen ways, goes on as another process, or ends at once. The status is 3 where that was refused. */
 #define _GNU_SOURCE
 #include <errno.h>
 #include <fcntl.h>
@@ -23,6 +23,11 @@ static pid_t starts(int which) {
   case 6: return execvp("touch", words);
   case 7: return execvpe("touch", words, environ);
   case 8: return fexecve((int)syscall(257, AT_FDCWD, path, O_RDONLY | O_CLOEXEC, 0), words, environ);
+  case 11: return execl(path, "touch", "made.txt", NULL);
+  case 12: return execlp("touch", "touch", "made.txt", NULL);
+  case 13: return execle(path, "touch", "made.txt", NULL, environ);
+  case 14: return execveat(AT_FDCWD, path, words, environ, 0);
+  case 15: return daemon(1, 1);
   default: _Exit(4);
   }
 }

@@ -2,6 +2,7 @@
 #define _GNU_SOURCE
 #include "said.h"
 
+#include <pthread.h>
 #include <sched.h>
 #include <stdbool.h>
 #include <stdlib.h>
@@ -72,6 +73,18 @@ int main(void) {
   bytes("arc4random_buf", random, 4);
   SAY(arc4random_uniform(1000));
   bytes("AT_RANDOM", (unsigned char *)getauxval(AT_RANDOM), 16);
+  clockid_t own = 0;
+  unsigned processor = 7, node = 7;
+  SAY(clock_getres(CLOCK_MONOTONIC, &t) + t.tv_sec * 1000000000 + t.tv_nsec);
+  SAY(clock_getres(9999, NULL));
+  SAY(timespec_getres(&t, TIME_UTC) + t.tv_sec * 1000000000 + t.tv_nsec);
+  TELL(clock_getcpuclockid(0, &own));
+  SAY(clock_gettime(own, &t));
+  TELL(clock_getcpuclockid(1 << 22, &own));
+  TELL(pthread_getcpuclockid(pthread_self(), &own));
+  SAY(clock_gettime(own, &t));
+  SAY(getcpu(&processor, &node) + (long)(processor + node));
+  TELL(pthread_getaffinity_np(pthread_self(), sizeof set, &set));
   SAY(getpid());
   SAY(getppid());
   SAY(gettid());

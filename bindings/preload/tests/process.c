@@ -19,6 +19,28 @@ static void *waits(void *given) {
   return NULL;
 }
 
+int pause_for_set(int) __asm__("sigpause"), pause_for_one(int) __asm__("__xpg_sigpause"), __sigpause(int, int);
+static void others(void) {
+  sigset_t set;
+  sigemptyset(&set);
+  sigaddset(&set, SIGUSR1);
+  handled = 0;
+  SAY(killpg(getpgrp(), 0));
+  SAY(killpg(-1, 0));
+  SAY(tgkill(getpid(), gettid(), SIGUSR1));
+  SAY(handled == SIGUSR1);
+  pthread_sigmask(SIG_BLOCK, &set, NULL);
+  SAY(raise(SIGUSR1));
+  SAY(pause_for_set(0));
+  SAY(raise(SIGUSR1));
+  SAY(pause_for_one(SIGUSR1));
+  SAY(raise(SIGUSR1));
+  SAY(__sigpause(SIGUSR1, 1));
+  SAY(pause_for_one(999));
+  SAY(handled == 4 * SIGUSR1);
+  pthread_sigmask(SIG_UNBLOCK, &set, NULL);
+}
+
 int main(void) {
   sigset_t set, none, there;
   sigemptyset(&none);
@@ -53,6 +75,7 @@ int main(void) {
   signal(SIGALRM, writes);
   ualarm(20000, 0);
   SAY(pause());
+  others();
   SAY(kill(1 << 22, 0));
   SAY(system("exit 3") >> 8);
   fflush(stdout);

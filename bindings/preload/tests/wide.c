@@ -5,7 +5,7 @@
 #include <stdio.h>
 #include <wchar.h>
 
-extern wchar_t *__fgetws_chk(wchar_t *, size_t, int, FILE *);
+extern wchar_t *__fgetws_chk(wchar_t *, size_t, int, FILE *), *__fgetws_unlocked_chk(wchar_t *, size_t, int, FILE *);
 extern int __fwprintf_chk(FILE *, int, const wchar_t *, ...), __wprintf_chk(int, const wchar_t *, ...);
 extern int __vfwprintf_chk(FILE *, int, const wchar_t *, va_list), __vwprintf_chk(int, const wchar_t *, va_list);
 static FILE *f;
@@ -38,6 +38,7 @@ int main(void) {
   for (int i = 0; i < 3; i++) sum += i ? fgetwc(f) : getwc(f) + fgetwc_unlocked(f) + getwc_unlocked(f);
   sum += ungetwc(L'\u20ac', f);
   sum += (fgetws_unlocked(line, 99, f) != NULL) + (__fgetws_chk(line, 99, 99, f) != NULL) + line[0];
+  sum += (__fgetws_unlocked_chk(line, 99, 99, f) != NULL);
   sum += getwchar() + getwchar_unlocked();
   wprintf(L"%ld\n", sum);
   fclose(f);
