@@ -62,6 +62,7 @@ CASES = (
     Case("wide", ("@wide",), input="input.txt"),
     Case("identity", ("@identity",), input="input.txt"),
     Case("others", ("@others",), input="input.txt", stdin=True),
+    Case("aliases", ("@aliases",), input="input.txt", stdin=True),
     Case("uncovered", ("@uncovered",), native=False),
     Case("locks", ("@locks",)),
     Case("threads", ("@threads",)),

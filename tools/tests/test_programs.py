@@ -9,7 +9,7 @@ from collections.abc import Callable
 
 from detio_tools import preload_edits, programs
 
-ROWS = {"turn", "call", "asked", "waits", "copied", "held", "ours", "ends", "refused"}
+ROWS = {"turn", "call", "asked", "waits", "copied", "held", "ours", "ends", "alias", "refused"}
 
 
 class Programs(unittest.TestCase):
