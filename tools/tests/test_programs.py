@@ -7,9 +7,7 @@ import tempfile
 import unittest
 from collections.abc import Callable
 
-from detio_tools import preload_edits, programs
-
-ROWS = {"turn", "call", "asked", "waits", "copied", "held", "ours", "ends", "alias", "refused"}
+from detio_tools import interposed, preload_edits, programs
 
 
 class Programs(unittest.TestCase):
@@ -62,7 +60,7 @@ class Programs(unittest.TestCase):
         rows = list(programs.table())
         self.assertGreater(len(rows), 300)
         self.assertEqual(len({name for name, _, _ in rows}), len(rows))
-        self.assertEqual({how for _, how, _ in rows} - ROWS, set())
+        self.assertEqual({how for _, how, _ in rows} - interposed.HOWS, set())
         self.assertIn(("pthread_create", "turn", "bank"), rows)
 
     def test_cases_have_names_of_their_own(self) -> None:
