@@ -57,6 +57,12 @@ ALIAS(__vfork, vfork);
 ALIAS(gsignal, raise);
 ALIAS(_IO_popen, popen);
 
+/* signals.c */
+ALIAS(__sigaction, sigaction);
+ALIAS(__sysv_signal, sysv_signal);
+ALIAS(bsd_signal, signal);
+ALIAS(ssignal, signal);
+
 /* files.c */
 ALIAS(__backtrace_symbols_fd, backtrace_symbols_fd);
 ALIAS(_IO_fclose, fclose);

@@ -33,16 +33,35 @@ _Noreturn void ends(int status, const char *format, ...) {
   __builtin_unreachable();
 }
 
-/* The same once for each kind of thing. */
-void once(const char *what, const char *format, ...) {
-  static char said[64][32];
+/* Whether this kind of thing comes for the first time. */
+static bool is_first(const char *kind) {
+  enum { KINDS = 256 };
+  static char said[KINDS][32];
   static int count;
   for (int i = 0; i < count; i++)
-    if (!strncmp(said[i], what, sizeof said[i] - 1)) return;
-  if (count < 64) strncpy(said[count++], what, sizeof said[0] - 1);
+    if (!strncmp(said[i], kind, sizeof said[i] - 1)) return false;
+  if (count < KINDS) strncpy(said[count++], kind, sizeof said[0] - 1);
+  return true;
+}
+static void say_uncovered(const void *caller, const char *kind, const char *format, va_list given) {
+  char line[640];
+  place there;
+  if (!is_first(kind)) return;
+  vsnprintf(line, sizeof line, format, given);
+  const char *at = caller ? place_of(caller, &there) : "its start";
+  if (run.strict) ends(STRICT, "%s (at %s): --strict ends the run", line, at);
+  say("%s (at %s)", line, at);
+}
+void uncovered(const char *kind, const char *format, ...) {
   va_list given;
   va_start(given, format);
-  say_line(format, given);
+  say_uncovered(me >= 0 ? slots[me].caller : NULL, kind, format, given);
+  va_end(given);
+}
+void uncovered_at(const void *caller, const char *kind, const char *format, ...) {
+  va_list given;
+  va_start(given, format);
+  say_uncovered(caller, kind, format, given);
   va_end(given);
 }
 
@@ -57,6 +76,7 @@ bool begun;
 __attribute__((constructor(101))) static void begin(void) {
   if (!getenv("DETIO_RUN")) return;
   inside++;
+  begin_callers();
   open_log();
   begin_turns();
   begin_descriptors();
@@ -68,6 +88,7 @@ __attribute__((constructor(101))) static void begin(void) {
   if (run.passes)
     say("paths below %s%s go to the host and are not recorded", run.passed[0], run.passes > 1 ? " and others" : "");
   if (run.replays) forbid_effects();
+  if (run.strict) forbid_strangers();
   on = true;
   inside--;
   begin_files();

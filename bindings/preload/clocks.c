@@ -20,6 +20,7 @@ EXPORT int clock_gettime(clockid_t clock, struct timespec *to) {
     long r = KERNEL(SYS_clock_gettime, clock, to);
     return r < 0 ? (errno = (int)-r, -1) : 0;
   }
+  NOTE_CALLER();
   return (int)asks(ASK_CLOCK, 0, NULL, clock, to, sizeof *to);
 }
 EXPORT int clock_getres(clockid_t clock, struct timespec *to) {
@@ -38,7 +39,7 @@ EXPORT int clock_getcpuclockid(pid_t pid, clockid_t *to) {
   NEXT(clock_getcpuclockid);
   OFF(next(pid, to));
   if (pid && pid != getpid()) {
-    once("clock_getcpuclockid", "clock_getcpuclockid of another process is not covered: refused");
+    uncovered("clock_getcpuclockid", "clock_getcpuclockid of another process is not covered: refused, in a rerun too");
     return ENOSYS;
   }
   *to = CLOCK_PROCESS_CPUTIME_ID;
@@ -48,7 +49,7 @@ EXPORT int pthread_getcpuclockid(pthread_t thread, clockid_t *to) {
   NEXT(pthread_getcpuclockid);
   OFF(next(thread, to));
   if (!pthread_equal(thread, pthread_self())) {
-    once("pthread_getcpuclockid", "pthread_getcpuclockid of another thread is not covered: refused");
+    uncovered("pthread_getcpuclockid", "pthread_getcpuclockid of another thread is not covered: refused, in a rerun too");
     return ENOSYS;
   }
   *to = CLOCK_THREAD_CPUTIME_ID;

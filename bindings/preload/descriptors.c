@@ -59,6 +59,9 @@ int64_t plain_call(const detio_call *call, const void *text, size_t length, void
     int64_t error = asks(ASK_ERROR, 0, NULL, 0, NULL, 0);
     return errno = error > 0 ? (int)error : EIO, -1;
   }
+  if (r.kind == DETIO_FAILURE && (r.error == DETIO_EMFILE || r.error == DETIO_ENFILE))
+    uncovered("numbers", "no number for one more file, pipe or socket: there are 31, and 28 of the host: the call fails, in "
+                         "a rerun too");
   if (r.kind == DETIO_FAILURE) return fails(r.error);
   return r.kind == DETIO_NUMBER ? r.first : r.kind == DETIO_COUNT || r.kind == DETIO_DATA ? (int64_t)r.count : 0;
 }
@@ -757,15 +760,16 @@ static void *map(void *at, size_t length, int prot, int flags, int fd, off_t fro
 }
 EXPORT void *mmap(void *at, size_t length, int prot, int flags, int fd, off_t from) {
   if (!takes_part() || (flags & MAP_ANONYMOUS) || !is_ours(fd)) return map(at, length, prot, flags, fd, from);
+  NOTE_CALLER();
   enum kind kind = opened_at(fd)->kind;
   if (kind == NONE) return errno = EBADF, MAP_FAILED;
   if (from & 4095) return errno = EINVAL, MAP_FAILED;
   if ((kind != HOST && kind != MEMORY) || ((flags & MAP_SHARED) && (prot & PROT_WRITE))) {
-    once("mmap", "a shared mapping of descriptor %d for writing is not covered: refused", fd);
+    uncovered("mmap", "a shared mapping of descriptor %d for writing is not covered: refused, in a rerun too", fd);
     return errno = ENODEV, MAP_FAILED;
   }
   if ((flags & MAP_SHARED) && (get_flags(fd) & O_ACCMODE) != O_RDONLY)
-    once("mmap shared", "the shared mapping of descriptor %d is a copy: what is written to the file later is not in it",
+    uncovered("mmap shared", "the shared mapping of descriptor %d is a copy: what is written to the file later is not in it",
          fd);
   char *bytes = map(at, length, PROT_READ | PROT_WRITE, (flags & ~MAP_SHARED) | MAP_PRIVATE | MAP_ANONYMOUS, -1, 0);
   if (bytes == MAP_FAILED) return bytes;

@@ -24,7 +24,7 @@ extern char **environ;
 typedef struct {
   bool reruns, force;
   const char *log, *threads, *memory, *seed, *fault;
-  bool overlap, parallel;
+  bool overlap, parallel, strict;
   const char *passed[16], *kept[256];
   int passes, keeps;
   char **words; /* the program and its arguments, or NULL */
@@ -44,7 +44,7 @@ _Noreturn static void fails(int status, const char *format, ...) {
 
 static const char usage[] =
     "usage: detio run [--log L] [--force] [--threads N] [--mem PREFIX] [--pass PREFIX].. [--seed S] [--fault K]\n"
-    "                 [--overlap] [--parallel] [--env NAME].. -- PROGRAM [ARGS]..\n"
+    "                 [--overlap] [--parallel] [--strict] [--env NAME].. -- PROGRAM [ARGS]..\n"
     "       detio rerun --log L [--force] [-- PROGRAM [ARGS]..]\n"
     "`detio help run` and `detio help rerun` say what each word does\n";
 
@@ -87,6 +87,7 @@ static bool run_option(options *to, char **words, int *at) {
     to->kept[to->keeps++] = value;
   } else if (!strcmp(words[*at], "--overlap")) to->overlap = true;
   else if (!strcmp(words[*at], "--parallel")) to->parallel = true;
+  else if (!strcmp(words[*at], "--strict")) to->strict = true;
   else return false;
   return true;
 }
@@ -123,21 +124,38 @@ static void find_program(const char *word, char *path) {
   fails(NOT_FOUND, "%s is not found", word);
 }
 
-/* A program that can be run, and loads libraries; or a script, whose interpreter may. */
-static void look_at(const char *path) {
+/* The interpreter of a script whose first bytes these are, or NULL. */
+static const char *interpreter(char *bytes, ssize_t length) {
+  if (length < 3 || memcmp(bytes, "#!", 2)) return NULL;
+  bytes[length] = 0;
+  char *first = bytes + 2 + strspn(bytes + 2, " \t");
+  first[strcspn(first, " \t\n")] = 0;
+  return *first == '/' ? first : NULL;
+}
+
+/* A program that can be run, and loads libraries, also ours; or a script of such a program. */
+static void look_at(const char *path, int depth) {
+  char script[256];
+  struct stat status;
   Elf64_Ehdr head;
   Elf64_Phdr part;
   bool loads = false;
   int from = open(path, O_RDONLY | O_CLOEXEC);
   if (from < 0) fails(errno == ENOENT ? NOT_FOUND : CANNOT_RUN, "%s cannot be run: %s", path, strerror(errno));
-  ssize_t n = read(from, &head, sizeof head);
+  const char *runs = interpreter(script, read(from, script, sizeof script - 1));
+  if (runs && depth < 4) return (void)close(from), look_at(runs, depth + 1);
+  ssize_t n = pread(from, &head, sizeof head, 0);
   if (n >= 2 && !memcmp(&head, "#!", 2)) return (void)close(from);
   if (n != sizeof head || memcmp(head.e_ident, ELFMAG, SELFMAG) || head.e_ident[EI_CLASS] != ELFCLASS64)
     fails(CANNOT_RUN, "%s is not a program of this machine", path);
   for (int i = 0; i < head.e_phnum; i++)
     if (pread(from, &part, sizeof part, (off_t)(head.e_phoff + (size_t)i * head.e_phentsize)) == sizeof part)
       loads = loads || part.p_type == PT_INTERP;
+  if (fstat(from, &status)) fails(CANNOT_RUN, "%s cannot be run: %s", path, strerror(errno));
   close(from);
+  if (((status.st_mode & S_ISUID) && status.st_uid != geteuid()) ||
+      ((status.st_mode & S_ISGID) && status.st_gid != getegid()))
+    fails(CANNOT_RUN, "%s runs as another user or group, so it loads no library of ours", path);
   if (!loads) fails(CANNOT_RUN, "%s is linked statically, so no call of it can be recorded", path);
 }
 
@@ -179,6 +197,7 @@ static void add_settings(const options *given) {
   if (given->fault) add_entry(&about, "fault", given->fault);
   if (given->overlap) add_entry(&about, "overlap", "yes");
   if (given->parallel) add_entry(&about, "parallel", "yes");
+  if (given->strict) add_entry(&about, "strict", "yes");
 }
 
 /* The same addresses in each run, where the kernel lets us. */
@@ -213,7 +232,7 @@ static void read_log(const char *path) {
 static void compare_program(const options *given) {
   static const char *const keys[] = {"program", "argument", "directory", "variable", NULL};
   static const char *const settings[] = {"threads", "memory",   "pass",  "seed", "fault",
-                                         "overlap", "parallel", "fixed", NULL};
+                                         "overlap", "parallel", "strict", "fixed", NULL};
   size_t at;
   if (given->words) {
     add_program(given);
@@ -287,7 +306,7 @@ int main(int count, char **words) {
   const char *program = first_value(&about, "program"), *directory = first_value(&about, "directory");
   if (!program || !directory || about.full)
     fails(OURS, "arguments and environment are too long, or the log lacks them");
-  look_at(program);
+  look_at(program, 0);
   if (!given.reruns) make_log(&given, path);
   if (!fixed) fputs("detio: the kernel does not fix addresses: a rerun of a program that uses them differs\n", stderr);
   if (given.reruns && chdir(directory)) (void)!chdir("/");

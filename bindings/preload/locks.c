@@ -4,6 +4,7 @@
 
 #include <linux/futex.h>
 #include <semaphore.h>
+#include <stdio.h>
 #include <string.h>
 #include <sys/random.h>
 #include <sys/syscall.h>
@@ -405,11 +406,25 @@ static long futex(int *word, int op, int value, const struct timespec *time) {
   case FUTEX_WAIT:
   case FUTEX_WAIT_BITSET: return wait_futex(word, op, value, time);
   default:
-    once("futex", "futex operation %d is not covered: refused", op & FUTEX_CMD_MASK);
+    uncovered("futex", "futex operation %d is not covered: refused, in a rerun too", op & FUTEX_CMD_MASK);
     return errno = ENOSYS, -1;
   }
 }
 
+/* System calls that change or say what is of this process alone, in a rerun too. */
+static bool is_of_process(long n) {
+  static const short all[] = {SYS_membarrier, SYS_rseq, SYS_set_robust_list, SYS_get_robust_list, SYS_prctl,
+                              SYS_arch_prctl, SYS_mprotect, SYS_munmap, SYS_madvise, SYS_mlock, SYS_munlock, SYS_brk,
+                              SYS_mbind, SYS_set_mempolicy, SYS_get_mempolicy, SYS_rt_sigprocmask, SYS_rt_sigreturn,
+                              SYS_sigaltstack, SYS_sched_yield, SYS_exit, SYS_exit_group};
+  for (size_t i = 0; i < sizeof all / sizeof *all; i++)
+    if (all[i] == n) return true;
+  return false;
+}
+/* .. and those that make what the library does not know: another thread or process, or a ring of calls. */
+static bool makes_stranger(long n) {
+  return n == SYS_clone || n == SYS_clone3 || n == SYS_fork || n == SYS_vfork || n == SYS_io_uring_setup;
+}
 EXPORT long syscall(long n, ...) {
   va_list given;
   va_start(given, n);
@@ -417,9 +432,17 @@ EXPORT long syscall(long n, ...) {
   long d = va_arg(given, long), e = va_arg(given, long), f = va_arg(given, long);
   va_end(given);
   if (takes_part()) {
+    char kind[32];
+    NOTE_CALLER();
     if (n == SYS_futex) return futex((int *)a, (int)b, (int)c, (const struct timespec *)d);
     if (n == SYS_getrandom) return getrandom((void *)a, (size_t)b, (unsigned)c);
     if (n == SYS_gettid) return asks(ASK_NUMBER, 0, NULL, SYS_gettid, NULL, 0);
+    snprintf(kind, sizeof kind, "system call %ld", n);
+    if (makes_stranger(n)) {
+      uncovered(kind, "%s is not covered: refused, in a rerun too", kind);
+      return errno = ENOSYS, -1;
+    }
+    if (!is_of_process(n)) uncovered(kind, "%s goes past the run: it is not recorded, and a rerun makes it again", kind);
   }
   long r = kernel(n, a, b, c, d, e, f);
   return r < 0 && r > -4096 ? (errno = (int)-r, -1) : r;

@@ -39,7 +39,13 @@ static void refuse(int number, siginfo_t *about, void *context) {
   for (int divisor = 1000; divisor; divisor /= 10)
     if (n >= divisor || divisor == 1) what[length++] = (char)('0' + n / divisor % 10);
   what[length] = 0;
-  once(what, "system call %s reaches outside: a rerun refuses it", what);
+  const void *from = (const void *)at->uc_mcontext.gregs[REG_RIP];
+  bool known = is_in(&own_code, from) || is_in(&c_library, from) || is_in(&loader, from);
+  if (known || !run.strict)
+    uncovered_at(known && me >= 0 ? slots[me].caller : from, what, "system call %s reaches outside: a rerun refuses it",
+                 what);
+  else
+    uncovered_at(from, what, "system call %s goes around the library: refused, in a rerun too", what);
   at->uc_mcontext.gregs[REG_RAX] = -ENOSYS;
 }
 
@@ -60,9 +66,19 @@ static size_t forbid_where(struct sock_filter *at, long call, int argument, uint
   return sizeof program / sizeof *program;
 }
 
+/* Lays a filter below the process: whether the kernel does. */
+static bool filter(struct sock_filter *program, size_t length) {
+  struct sigaction act = {.sa_sigaction = refuse, .sa_flags = SA_SIGINFO | SA_NODEFER};
+  struct sock_fprog all = {.len = (unsigned short)length, .filter = program};
+  inside++;
+  bool there = !sigaction(SIGSYS, &act, NULL) && !prctl(PR_SET_NO_NEW_PRIVS, 1, 0, 0, 0) &&
+               !KERNEL(SYS_seccomp, SECCOMP_SET_MODE_FILTER, 0, &all);
+  inside--;
+  return there;
+}
+
 void forbid_effects(void) {
   static struct sock_filter program[2 * FORBIDDEN + 64];
-  struct sigaction act = {.sa_sigaction = refuse, .sa_flags = SA_SIGINFO | SA_NODEFER};
   size_t n = 0;
   uint32_t self = (uint32_t)KERNEL(SYS_getpid, 0);
   if (run.passes) return; /* paths below --pass go to the host */
@@ -84,10 +100,34 @@ void forbid_effects(void) {
   program[n++] = (struct sock_filter)BPF_JUMP(BPF_JMP | BPF_JEQ | BPF_K, SYS_clone3, 0, 1);
   program[n++] = (struct sock_filter)BPF_STMT(BPF_RET | BPF_K, SECCOMP_RET_ERRNO | ENOSYS);
   program[n++] = (struct sock_filter)ALLOW;
-  struct sock_fprog all = {.len = (unsigned short)n, .filter = program};
-  inside++;
-  bool there = !sigaction(SIGSYS, &act, NULL) && !prctl(PR_SET_NO_NEW_PRIVS, 1, 0, 0, 0) &&
-               !KERNEL(SYS_seccomp, SECCOMP_SET_MODE_FILTER, 0, &all);
-  inside--;
-  if (!there) say("this kernel has no filter of system calls: what is not covered may reach outside in a rerun");
+  if (!filter(program, n)) say("this kernel has no filter of system calls: what is not covered may reach outside in a rerun");
+}
+
+/* Allows calls that are made within these addresses, whose upper halves are the same. */
+static size_t allow_within(struct sock_filter *at, const range *r) {
+  enum { LOW = offsetof(struct seccomp_data, instruction_pointer), HIGH = LOW + 4 };
+  struct sock_filter program[] = {
+      BPF_STMT(BPF_LD | BPF_W | BPF_ABS, HIGH),
+      BPF_JUMP(BPF_JMP | BPF_JEQ | BPF_K, (uint32_t)(r->first >> 32), 0, 4),
+      BPF_STMT(BPF_LD | BPF_W | BPF_ABS, LOW),
+      BPF_JUMP(BPF_JMP | BPF_JGE | BPF_K, (uint32_t)r->first, 0, 2),
+      BPF_JUMP(BPF_JMP | BPF_JGT | BPF_K, (uint32_t)r->end, 1, 0),
+      ALLOW};
+  memcpy(at, program, sizeof program);
+  return sizeof program / sizeof *program;
+}
+
+/* Of a strict run: the kernel refuses calls that are made elsewhere than in the C library, its loader or here. */
+void forbid_strangers(void) {
+  static struct sock_filter program[64];
+  const range *places[] = {&own_code, &c_library, &loader, &kernel_code};
+  size_t n = 0;
+  bool there = true;
+  for (size_t i = 0; i < sizeof places / sizeof *places; i++) {
+    if (places[i]->end && places[i]->first >> 32 != places[i]->end >> 32) there = false;
+    if (places[i]->end) n += allow_within(program + n, places[i]);
+  }
+  program[n++] = (struct sock_filter)TRAP;
+  if (!there || !filter(program, n))
+    say("this kernel has no filter of system calls: those that go around the library are not seen");
 }

@@ -40,7 +40,7 @@ enum {
 };
 
 /* The statuses with which Detio ends a run. */
-enum { DIVERGED = 120, DEADLOCK = 121, LOG_ENDS = 123, DIFFERS = 124, OURS = 125 };
+enum { DIVERGED = 120, DEADLOCK = 121, STRICT = 122, LOG_ENDS = 123, DIFFERS = 124, OURS = 125 };
 
 /* What is asked of the outside. Those after LAST_SURE can fail, so --fault may take them. */
 enum ask {
@@ -91,6 +91,7 @@ typedef struct {
   int opened;              /* the descriptor of the host that it opened last */
   const question *asked;   /* what it asks the oracle, or how it opens a door */
   int how, mode;           /* the flags and the mode of such an opening */
+  void *caller;            /* where the call that is under way, or was made last, returns to in the program */
   uint8_t room[ROOM];
 } slot;
 
@@ -104,7 +105,7 @@ extern bool begun;           /* .. and the program goes on by itself: what fails
 
 /* The settings of the run. The log of a rerun has them. */
 typedef struct {
-  bool replays, force, overlap, serial, fixed;  /* fixed: the same addresses in each run */
+  bool replays, force, overlap, serial, strict, fixed;  /* fixed: the same addresses in each run */
   size_t threads;
   uint64_t seed, fault;
   const char *memory;                  /* paths below it live in the run; NULL: none */
@@ -128,8 +129,23 @@ static inline bool takes_part(void) {
   static __typeof__(&name) next;       \
   if (!next) next = (__typeof__(&name))dlsym(RTLD_NEXT, #name)
 /* .. and calls of libc's own, or before and after the run, go there. */
-#define OFF(call) \
-  if (!takes_part()) return call
+#define OFF(call)                    \
+  if (!takes_part()) return call;    \
+  NOTE_CALLER()
+
+/* callers.c */
+typedef struct { uintptr_t first, end; } range;
+extern range own_code, c_library, loader, kernel_code;
+static inline bool is_in(const range *r, const void *at) { return (uintptr_t)at - r->first < r->end - r->first; }
+void begin_callers(void);
+void *caller_of_frames(void *const *frame);
+static inline void note_caller(void *from, void *frame) {
+  if (is_in(&own_code, from)) from = caller_of_frames(frame);
+  if (from) slots[me].caller = from;
+}
+#define NOTE_CALLER() note_caller(__builtin_return_address(0), __builtin_frame_address(0))
+typedef struct { char text[160]; } place;
+const char *place_of(const void *address, place *to);
 
 /* turns.c */
 void lock_run(void);
@@ -178,7 +194,9 @@ void compare_about(void);
 /* the end of a run by us */
 _Noreturn void ends(int status, const char *format, ...) __attribute__((format(printf, 2, 3)));
 void say(const char *format, ...) __attribute__((format(printf, 1, 2)));
-void once(const char *what, const char *format, ...) __attribute__((format(printf, 2, 3)));
+/* What is refused, or goes past the run: a line once for each kind, with the caller. A strict run ends there. */
+void uncovered(const char *kind, const char *format, ...) __attribute__((format(printf, 2, 3)));
+void uncovered_at(const void *caller, const char *kind, const char *format, ...) __attribute__((format(printf, 3, 4)));
 
 /* descriptors.c: what is known of each number of the machine */
 enum kind { NONE, MEMORY, PIPE, HOST, STREAM, LISTENER, SOCKET, STANDARD };
@@ -215,6 +233,7 @@ void begin_processes(void);
 
 /* net.c */
 void forbid_effects(void);
+void forbid_strangers(void);
 
 /* heap.c */
 void *detio_heap_malloc(size_t);

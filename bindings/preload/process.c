@@ -123,7 +123,7 @@ EXPORT int sigqueue(pid_t to, int number, const union sigval value) {
   NEXT(sigqueue);
   OFF(next(to, number, value));
   if (to != getpid()) {
-    once("sigqueue", "sigqueue to another process is not covered: refused");
+    uncovered("sigqueue", "sigqueue to another process is not covered: refused, in a rerun too");
     return errno = ENOSYS, -1;
   }
   siginfo_t about = {.si_signo = number, .si_code = SI_QUEUE};
@@ -147,7 +147,7 @@ EXPORT int tgkill(pid_t process, pid_t thread, int number) {
   NEXT(tgkill);
   OFF(next(process, thread, number));
   if (process == getpid() && thread == gettid()) return raise(number);
-  once("tgkill", "tgkill to another thread is not covered: refused");
+  uncovered("tgkill", "tgkill to another thread is not covered: refused, in a rerun too");
   return errno = ENOSYS, -1;
 }
 
@@ -173,8 +173,8 @@ static void in_child(void) {
 }
 void begin_processes(void) { (void)pthread_atfork(NULL, NULL, in_child); }
 static bool starts_none(const char *call) {
-  if (run.replays) once("children", "%s: a rerun starts no other process: refused", call);
-  else once("children", "%s: what another process does is not recorded", call);
+  if (run.replays) uncovered(call, "%s: a rerun starts no other process: refused", call);
+  else uncovered(call, "%s: what another process does is not recorded, and a rerun starts none", call);
   return run.replays;
 }
 EXPORT pid_t fork(void) {
@@ -195,7 +195,7 @@ EXPORT int system(const char *command) {
   NEXT(system);
   OFF(next(command));
   if (!command) return 1;
-  once("system", "system: what a command does is not recorded, but its status");
+  uncovered("system", "system: of a command the status is recorded, and nothing else; a rerun starts none");
   return (int)ask(
       &(question){.what = ASK_CHILD, .b = (intptr_t)run_command, .bytes = command, .length = strlen(command) + 1}, NULL,
       NULL);
@@ -207,6 +207,7 @@ EXPORT FILE *popen(const char *command, const char *how) {
   static FILE *(*next)(const char *, const char *);
   if (!next) next = (FILE * (*)(const char *, const char *))dlsym(RTLD_NEXT, "popen");
   OFF(next(command, how));
+  uncovered("popen", "popen: of a command what its pipe has is recorded, and nothing else; a rerun starts none");
   int i = 0;
   while (i < COMMANDS && commands[i].ours) i++;
   if (i == COMMANDS) return errno = EMFILE, NULL;

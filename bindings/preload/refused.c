@@ -28,7 +28,7 @@
     static type(*next) given;                                    \
     if (!next) next = (type(*) given)dlsym(RTLD_NEXT, #name);    \
     OFF(next passed);                                            \
-    once(#name, "%s is not covered: refused", #name);            \
+    uncovered(#name, "%s is not covered: refused, in a rerun too", #name);            \
     errno = error;                                               \
     return failed;                                               \
   }
@@ -172,6 +172,6 @@ EXPORT int clone(int (*begins)(void *), void *stack, int flags, void *given, ...
   void *parent = va_arg(rest, void *), *locals = va_arg(rest, void *), *child = va_arg(rest, void *);
   va_end(rest);
   OFF(next(begins, stack, flags, given, parent, locals, child));
-  once("clone", "clone is not covered: refused");
+  uncovered("clone", "clone is not covered: refused, in a rerun too");
   return errno = ENOSYS, -1;
 }

@@ -16,7 +16,7 @@ EXPORT int socket(int domain, int type, int protocol) {
   NEXT(socket);
   OFF(next(domain, type, protocol));
   if (domain != AF_INET || (type & 15) != SOCK_STREAM) {
-    once("socket", "sockets of family %d and type %d are not covered: refused", domain, type & 15);
+    uncovered("socket", "sockets of family %d and type %d are not covered: refused, in a rerun too", domain, type & 15);
     return errno = EAFNOSUPPORT, -1;
   }
   int fd = (int)plain_call(&(detio_call){.kind = DETIO_OPEN, .choice = DETIO_READ_WRITE, .flags = DETIO_CREATE},
@@ -57,7 +57,7 @@ EXPORT int bind(int fd, const struct sockaddr *to, socklen_t length) {
   if (f->kind != SOCKET) return not_new(fd, EINVAL);
   if (length < sizeof *in || in->sin_family != AF_INET) return errno = EAFNOSUPPORT, -1;
   if (in->sin_addr.s_addr == htonl(INADDR_ANY))
-    once("any", "a server of all addresses listens at 127.0.0.1 alone");
+    uncovered("any", "a server of all addresses listens at 127.0.0.1 alone");
   else if (!is_loopback(in)) return errno = EADDRNOTAVAIL, -1;
   /* Its port is asked for at once, and so it listens from here on. */
   return becomes(fd, &(detio_call){.kind = DETIO_TCP_LISTEN, .number = ntohs(in->sin_port)}, LISTENER);
@@ -80,7 +80,7 @@ EXPORT int connect(int fd, const struct sockaddr *to, socklen_t length) {
   if (kind != SOCKET) return not_new(fd, EISCONN);
   if (length < sizeof *in || in->sin_family != AF_INET) return errno = EAFNOSUPPORT, -1;
   if (!is_loopback(in)) {
-    once("connect", "a connection to another host than this one is not covered: refused");
+    uncovered("connect", "a connection to another host than this one is not covered: refused, in a rerun too");
     return errno = ENETUNREACH, -1;
   }
   return becomes(fd, &(detio_call){.kind = DETIO_TCP_CONNECT, .number = ntohs(in->sin_port)}, STREAM);
@@ -159,7 +159,7 @@ EXPORT ssize_t recv(int fd, void *bytes, size_t count, int flags) {
   if (!is_ours(fd)) return next(fd, bytes, count, flags);
   if (!is_socket(fd)) return -1;
   if (flags & ~(MSG_NOSIGNAL | MSG_DONTWAIT | MSG_WAITALL | MSG_CMSG_CLOEXEC)) {
-    once("recv", "recv with flags %d is not covered: refused", flags);
+    uncovered("recv", "recv with flags %d is not covered: refused, in a rerun too", flags);
     return errno = EOPNOTSUPP, -1;
   }
   size_t done = 0;

@@ -133,7 +133,8 @@ EXPORT int pthread_create(pthread_t *thread, const pthread_attr_t *attr, void *(
       if (k != i && slots[k].state == DONE && pthread_equal(slots[k].id, *thread)) slots[k].state = FREE;
     if (!code) slots[i].id = *thread;
   }
-  if (i < 0) once("slots", "no number for one more thread: more than %lu live at once, see --threads", run.threads);
+  if (i < 0) uncovered("slots", "no number for one more thread: pthread_create fails while %lu live, in a rerun too; see --threads",
+                       run.threads);
   else if (code) slots[i].state = FREE;
   turn_end();
   return code;
@@ -220,7 +221,7 @@ EXPORT int pthread_detach(pthread_t thread) {
 EXPORT int pthread_cancel(pthread_t thread) {
   NEXT(pthread_cancel);
   OFF(next(thread));
-  once("cancel", "pthread_cancel: a thread ends at its next sleep or wait for a condition, and nowhere else");
+  uncovered("cancel", "pthread_cancel: a thread ends at its next sleep or wait for a condition, and nowhere else");
   turn();
   int i = slot_of(thread);
   inside++;

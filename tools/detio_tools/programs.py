@@ -17,7 +17,7 @@ from detio_tools import repository
 TESTS = pathlib.Path(repository.TOP) / "bindings/preload/tests"
 PRELOAD = pathlib.Path(repository.TOP) / "bindings/preload"
 SECONDS = 120
-DIVERGED, DEADLOCK, LOG_ENDS, DIFFERS, OURS = 120, 121, 123, 124, 125
+DIVERGED, DEADLOCK, STRICT, LOG_ENDS, DIFFERS, OURS = 120, 121, 122, 123, 124, 125
 
 
 @dataclass(frozen=True)
@@ -353,7 +353,12 @@ def statuses(trial: Trial) -> None:
         (OURS, ("run", "--threads", "17", "--", "true")), (OURS, ("run", "--log", "none/log", "--", "true")),
         (OURS, ("rerun", "--", "true")), (OURS, ("rerun", "--log", "none")), (DIFFERS, ("rerun", "--log", "torn")),
         (OURS, ("run", "--mem", "relative", "--", "true")), (OURS, ("run", "--unknown", "--", "true"))]
-    wanted += [(126, ("run", "--", "./static"))] if static else []
+    if static:
+        (folder / "script").write_text(f"#!{folder}/static -x\n", encoding="ascii")
+        (folder / "script").chmod(0o755)
+        wanted += [(126, ("run", "--", "./static")), (126, ("run", "--", "./script"))]
+    else:
+        trial.leaves_out("a static C library", 2)
     for status, words in wanted:
         ran = trial.launch(launcher, *words, folder=folder)
         trial.check(ran.status == status and ran.err.startswith(b"detio: "), f"{' '.join(words)}: {ran.status} {ran.ours()}")
@@ -530,6 +535,61 @@ def other_user(trial: Trial) -> None:
         again = trial.launch("setpriv", "--reuid", "65534", f"{room}/detio-launch", "rerun", "--log", str(copy),
                              folder=pathlib.Path("/"))
     trial.check((again.status, again.out) == (0, b"0\n"), f"other user: rerun {again.status} {again.out!r} {again.ours()}")
+
+
+def function_at(program: str, offset: int) -> str:
+    """The function of a program that has an address."""
+    listed = subprocess.run(["nm", "-S", program], capture_output=True, text=True, check=True).stdout
+    for words in (line.split() for line in listed.splitlines()):
+        if len(words) == 4 and int(words[0], 16) <= offset <= int(words[0], 16) + int(words[1], 16):
+            return words[3]
+    return "none"
+
+
+def callers_in(ran: Ran, program: str) -> list[str]:
+    """The functions of a program that our lines name by their places."""
+    name = re.escape(os.path.basename(program))
+    return [function_at(program, int(it, 16)) for it in re.findall(rf"{name}\+0x([0-9a-f]+)", ran.ours())]
+
+
+# The ways of strangers, and what the line says of each.
+STRANGERS = {
+    "by_syscall": "system call 79 goes past the run", "by_fork": "fork: ", "by_vfork": "fork: ", "by_clone": "clone is not",
+    "by_spawn": "posix_spawn: ", "by_system": "system: ", "by_popen": "popen: ", "by_handler": "the handler of signal 14",
+    "by_mapping": "a shared mapping", "by_ring": "system call 425 is not", "by_thread": "no number for one more thread",
+    "by_numbers": "no number for one more file", "by_instruction": "system call 79 goes around"}
+
+
+def strangers(trial: Trial) -> None:
+    """What is refused or passed on is said once, with its caller; and a strict run ends there, and its rerun too."""
+    folder = trial.room / "strangers"
+    make_inputs(folder)
+    program = str(trial.room / "programs/strangers")
+    for way, (name, said) in enumerate(STRANGERS.items()):
+        some = ("--threads", "1") if name == "by_thread" else ()
+        run = trial.run("strangers.log", program, str(way), folder=folder, options=some)
+        again = trial.rerun("strangers.log", folder=folder)
+        quiet = name == "by_instruction"  # without --strict nobody looks at it
+        trial.check(run.status == 0 and run.ours().count(said) == (not quiet), f"strangers: {name}: {run.status} {run.ours()}")
+        if not quiet:
+            where = callers_in(run, program)
+            trial.check(where == [name], f"strangers: {name}: it was called by {where}: {run.ours()}")
+        if name not in ("by_fork", "by_vfork", "by_spawn", "by_handler"):
+            trial.check(again.alone() == run.alone(), f"strangers: {name}: rerun {again.status} {again.ours()}")
+        strict = trial.run("strict.log", program, str(way), folder=folder, options=("--strict", *some))
+        if "no filter of system calls" in strict.ours():
+            trial.leaves_out("a filter of system calls", 2)
+            continue
+        trial.check((strict.status, strict.out) == (STRICT, b"") and said in strict.ours(),
+                    f"strangers: {name}: strict: {strict.status} {strict.ours()}")
+        again = trial.rerun("strict.log", folder=folder)
+        wanted = (STRICT, LOG_ENDS) if name == "by_handler" else (STRICT,)
+        trial.check(again.status in wanted, f"strangers: {name}: strict rerun: {again.status} {again.ours()}")
+    for it in "pigz", "sort":
+        if shutil.which(it):
+            strict = trial.run("strict.log", it, "data.txt" if it == "sort" else "-kf", *(("data.txt",) if it == "pigz" else ()),
+                               folder=folder, options=("--strict",))
+            trial.check((strict.status, strict.ours()) == (0, ""), f"strangers: {it}: strict: {strict.status} {strict.ours()}")
 
 
 def compiles(words: list[str]) -> bool:
@@ -717,6 +777,6 @@ def compare_table(trial: Trial) -> None:
 
 OTHERS: dict[str, Callable[[Trial], None]] = {
     "table": compare_table, "closed": closed_program, "killed": killed, "differing": differing, "statuses":
-    statuses, "stuck": stuck, "net": net, "passed": passed, "faults": faults, "own-identity": other_user, "seeds": seeds, "children": children,
+    statuses, "stuck": stuck, "net": net, "passed": passed, "faults": faults, "own-identity": other_user, "strangers": strangers, "seeds": seeds, "children": children,
     "units": units, "sanitizers": sanitizers, "addresses": addresses, "few": few_addresses, "in-turn": in_turn,
     "numbers": closed_numbers, "hang": hang_of_pigz, "server": server, "web": web_server}

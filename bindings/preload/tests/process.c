@@ -19,6 +19,41 @@ static void *waits(void *given) {
   return NULL;
 }
 
+static void informed(int number, siginfo_t *about, void *context) {
+  SAY(number == SIGUSR2 && about->si_signo == SIGUSR2 && context);
+}
+sighandler_t __sysv_signal(int, sighandler_t), bsd_signal(int, sighandler_t);
+int __sigaction(int, const struct sigaction *, struct sigaction *);
+static void handlers(void) {
+  struct sigaction act, old;
+  memset(&act, 0, sizeof act);
+  SAY(signal(SIGUSR1, SIG_IGN) == handles);
+  SAY(signal(SIGUSR1, handles) == SIG_IGN);
+  SAY(bsd_signal(SIGUSR1, handles) == handles);
+  SAY(signal(999, handles) == SIG_ERR ? -1 : 0);
+  act.sa_sigaction = informed;
+  act.sa_flags = SA_SIGINFO | SA_RESTART;
+  SAY(sigaction(SIGUSR2, &act, &old));
+  SAY(old.sa_handler == handles && !(old.sa_flags & SA_SIGINFO));
+  SAY(raise(SIGUSR2));
+  SAY(__sigaction(SIGUSR2, NULL, &old));
+  SAY(old.sa_sigaction == informed && old.sa_flags & SA_SIGINFO);
+#pragma GCC diagnostic push
+#pragma GCC diagnostic ignored "-Wdeprecated-declarations"
+  SAY(siginterrupt(SIGUSR2, 1));
+  SAY(sigaction(SIGUSR2, NULL, &old) + (old.sa_flags & SA_RESTART ? 1 : 2));
+  SAY(sigaction(SIGKILL, &act, NULL));
+  SAY((void *)sigset(SIGUSR2, SIG_HOLD) == (void *)informed);
+  SAY(sigset(SIGUSR2, handles) == SIG_HOLD);
+#pragma GCC diagnostic pop
+  handled = 0;
+  SAY(sysv_signal(SIGUSR2, handles) == handles);
+  SAY(raise(SIGUSR2) + handled);
+  SAY(sysv_signal(SIGUSR2, SIG_IGN) == SIG_DFL);
+  SAY(__sysv_signal(SIGUSR2, SIG_DFL) == SIG_IGN);
+  SAY(ssignal(SIGUSR2, handles) == SIG_DFL);
+}
+
 int pause_for_set(int) __asm__("sigpause"), pause_for_one(int) __asm__("__xpg_sigpause"), __sigpause(int, int);
 static void others(void) {
   sigset_t set;
@@ -76,6 +111,7 @@ int main(void) {
   ualarm(20000, 0);
   SAY(pause());
   others();
+  handlers();
   SAY(kill(1 << 22, 0));
   SAY(system("exit 3") >> 8);
   fflush(stdout);

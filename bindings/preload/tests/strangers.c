@@ -1,0 +1,96 @@
+/* strangers WAY: does one thing that a run refuses or does not record, in a function of its own, and says so. */
+#define _GNU_SOURCE
+#include "said.h"
+
+#include <fcntl.h>
+#include <pthread.h>
+#include <sched.h>
+#include <signal.h>
+#include <spawn.h>
+#include <stdlib.h>
+#include <sys/mman.h>
+#include <sys/syscall.h>
+#include <sys/wait.h>
+#include <unistd.h>
+
+#define WAY(name) __attribute__((noinline)) static void name(void)
+static volatile int handled;
+static void handles(int number) { handled = number; }
+static void *waits(void *given) { return given; }
+static int does_nothing(void *given) { return given != NULL; }
+static void await(pid_t child) {
+  int status = 0;
+  if (child > 0) waitpid(child, &status, 0);
+}
+
+WAY(by_syscall) {
+  char here[4096];
+  syscall(SYS_getcwd, here, sizeof here);
+  said("by_syscall", 0);
+}
+WAY(by_fork) {
+  pid_t child = fork();
+  if (!child) _exit(0);
+  await(child);
+  said("by_fork", child < 0);
+}
+WAY(by_vfork) {
+  pid_t child = vfork();
+  if (!child) _exit(0);
+  await(child);
+  said("by_vfork", child < 0);
+}
+WAY(by_clone) {
+  static char stack[65536];
+  int child = clone(does_nothing, stack + sizeof stack, SIGCHLD, NULL);
+  await(child);
+  said("by_clone", child < 0);
+}
+WAY(by_spawn) {
+  pid_t child = 0;
+  char *const words[] = {"true", NULL};
+  int code = posix_spawn(&child, "/bin/true", NULL, NULL, words, environ);
+  await(code ? 0 : child);
+  said("by_spawn", code != 0);
+}
+WAY(by_system) { said("by_system", system("exit 0")); }
+WAY(by_popen) {
+  FILE *f = popen("exit 0", "r");
+  said("by_popen", f ? pclose(f) : -1);
+}
+WAY(by_handler) {
+  signal(SIGALRM, handles);
+  ualarm(20000, 0);
+  for (int i = 0; i < 1000000 && !handled; i++) usleep(1000);
+  said("by_handler", handled == SIGALRM);
+}
+WAY(by_mapping) {
+  int f = open("data.txt", O_RDWR);
+  said("by_mapping", mmap(NULL, 4096, PROT_READ | PROT_WRITE, MAP_SHARED, f, 0) == MAP_FAILED);
+}
+WAY(by_ring) { said("by_ring", syscall(SYS_io_uring_setup, 4, NULL) < 0); }
+WAY(by_thread) {
+  pthread_t t;
+  said("by_thread", pthread_create(&t, NULL, waits, NULL));
+}
+WAY(by_numbers) {
+  int made = 0;
+  while (made < 100 && dup(0) >= 0) made++;
+  said("by_numbers", made < 100);
+}
+/* As a program of another language does, or a library with system calls of its own. */
+WAY(by_instruction) {
+  char here[4096];
+  long result;
+  __asm__ volatile("syscall" : "=a"(result) : "0"(SYS_getcwd), "D"(here), "S"(sizeof here) : "rcx", "r11", "memory");
+  said("by_instruction", result < 0);
+}
+
+int main(int count, char **words) {
+  static void (*const ways[])(void) = {by_syscall, by_fork,    by_vfork, by_clone,  by_spawn,   by_system,     by_popen,
+                                       by_handler, by_mapping, by_ring,  by_thread, by_numbers, by_instruction};
+  size_t way = count > 1 ? (size_t)atoi(words[1]) : 0;
+  if (way >= sizeof ways / sizeof *ways) return 9;
+  ways[way]();
+  return 0;
+}
