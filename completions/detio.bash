@@ -19,8 +19,8 @@ _detio() {
     minimise) options='--write --force --schedule --same --patience --door-cost --log --why -h --help' paths=yes ;;
     record) options='--log --log-version --force --wait --in-turn --follow --patience --door-cost --turns --calls --by-turn --lanes --json --expect --why -h --help' paths=yes ;;
     replay) options='--log --threads --turns --calls --by-turn --lanes --json --expect --why -h --help' paths=yes ;;
-    run) options='--log --force --threads --mem --pass --seed --fault --overlap --parallel --env -h --help' paths=yes ;;
-    rerun) options='--log --force -h --help' paths=yes ;;
+    run) options='--log --force --threads --mem --pass --seed --fault --overlap --parallel --strict --wait-forever --env -h --help' paths=yes ;;
+    rerun) options='--log --force --stop-at -h --help' paths=yes ;;
     compare) options='--log --with --rows --no-turns --json --why -h --help' paths=yes ;;
     draw) options='--out --trace --force --log --with --patience --door-cost --why -h --help' paths=yes ;;
     show) options='--log --json --why -h --help' ;;
@@ -46,6 +46,7 @@ _detio() {
     run,--threads | run,--seed | run,--fault | run,--env) return ;;
     run,--mem | run,--pass) compopt -o dirnames; return ;;
     rerun,--log) compopt -o default; return ;;
+    rerun,--stop-at) return ;;
     compare,--log | compare,--with) compopt -o default; return ;;
     draw,--out | draw,--trace | draw,--log | draw,--with) compopt -o default; return ;;
     draw,--patience | draw,--door-cost) return ;;

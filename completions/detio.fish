@@ -111,11 +111,14 @@ complete -c detio -n '__fish_seen_subcommand_from run' -l seed -x -d 'Works befo
 complete -c detio -n '__fish_seen_subcommand_from run' -l fault -x -d 'The K-th outcome from outside that can fail is EIO'
 complete -c detio -n '__fish_seen_subcommand_from run' -l overlap -d 'Lets calls to the outside overlap'
 complete -c detio -n '__fish_seen_subcommand_from run' -l parallel -d 'Lets threads compute at the same time'
+complete -c detio -n '__fish_seen_subcommand_from run' -l strict -d 'Ends the run where something is refused or not recorded'
+complete -c detio -n '__fish_seen_subcommand_from run' -l wait-forever -d 'Does not end a run in which each thread waits for another'
 complete -c detio -n '__fish_seen_subcommand_from run' -l env -x -d 'An environment variable that the program has; it has no others then'
 complete -c detio -n '__fish_seen_subcommand_from run' -s h -l help -d 'Print help (see a summary with \'-h\')'
 complete -c detio -n '__fish_seen_subcommand_from run' -F
 complete -c detio -n '__fish_seen_subcommand_from rerun' -l log -r -F -d 'The log to run the program by'
 complete -c detio -n '__fish_seen_subcommand_from rerun' -l force -d 'Goes on where the program, its libraries or its words differ from the log\'s'
+complete -c detio -n '__fish_seen_subcommand_from rerun' -l stop-at -x -d 'Stops the process at this call of a thread, for a debugger'
 complete -c detio -n '__fish_seen_subcommand_from rerun' -s h -l help -d 'Print help (see a summary with \'-h\')'
 complete -c detio -n '__fish_seen_subcommand_from rerun' -F
 complete -c detio -n '__fish_seen_subcommand_from compare' -l log -r -F -d 'One log to replay; - is standard input'

@@ -24,7 +24,7 @@ extern char **environ;
 typedef struct {
   bool reruns, force;
   const char *log, *threads, *memory, *seed, *fault;
-  bool overlap, parallel, strict;
+  bool overlap, parallel, strict, waits_forever;
   const char *passed[16], *kept[256];
   int passes, keeps;
   char **words; /* the program and its arguments, or NULL */
@@ -44,7 +44,8 @@ _Noreturn static void fails(int status, const char *format, ...) {
 
 static const char usage[] =
     "usage: detio run [--log L] [--force] [--threads N] [--mem PREFIX] [--pass PREFIX].. [--seed S] [--fault K]\n"
-    "                 [--overlap] [--parallel] [--strict] [--env NAME].. -- PROGRAM [ARGS]..\n"
+    "                 [--overlap] [--parallel] [--strict] [--wait-forever] [--env NAME]..\n"
+    "                 -- PROGRAM [ARGS]..\n"
     "       detio rerun --log L [--force] [-- PROGRAM [ARGS]..]\n"
     "`detio help run` and `detio help rerun` say what each word does\n";
 
@@ -88,6 +89,7 @@ static bool run_option(options *to, char **words, int *at) {
   } else if (!strcmp(words[*at], "--overlap")) to->overlap = true;
   else if (!strcmp(words[*at], "--parallel")) to->parallel = true;
   else if (!strcmp(words[*at], "--strict")) to->strict = true;
+  else if (!strcmp(words[*at], "--wait-forever")) to->waits_forever = true;
   else return false;
   return true;
 }
@@ -198,6 +200,7 @@ static void add_settings(const options *given) {
   if (given->overlap) add_entry(&about, "overlap", "yes");
   if (given->parallel) add_entry(&about, "parallel", "yes");
   if (given->strict) add_entry(&about, "strict", "yes");
+  if (given->waits_forever) add_entry(&about, "wait-forever", "yes");
 }
 
 /* The same addresses in each run, where the kernel lets us. */
@@ -232,7 +235,7 @@ static void read_log(const char *path) {
 static void compare_program(const options *given) {
   static const char *const keys[] = {"program", "argument", "directory", "variable", NULL};
   static const char *const settings[] = {"threads", "memory",   "pass",  "seed", "fault",
-                                         "overlap", "parallel", "strict", "fixed", NULL};
+                                         "overlap", "parallel", "strict", "wait-forever", "fixed", NULL};
   size_t at;
   if (given->words) {
     add_program(given);

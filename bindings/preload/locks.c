@@ -21,6 +21,9 @@ static void pass_on(mutex *m) {
   if (w >= 0) unpark(w);
 }
 
+/* Who has the mutex at this place, or -1. */
+int mutex_owner(const void *at) { return ((const mutex *)at)->owner - 1; }
+
 /* At the turn: takes a mutex that this thread may have already: an error, or 0 where it has it now, or -1 where it is
  * another's. */
 static int take_now(mutex *m, bool tries) {
@@ -40,7 +43,7 @@ EXPORT int pthread_mutex_lock(pthread_mutex_t *p) {
   OFF(next(p));
   turn();
   int code = take_now((mutex *)p, false);
-  if (code < 0) park(p), code = 0;
+  if (code < 0) park(p, "mutex"), code = 0;
   turn_end();
   return code;
 }
@@ -85,7 +88,7 @@ EXPORT int pthread_spin_lock(pthread_spinlock_t *p) {
   NEXT(pthread_spin_lock);
   OFF(next(p));
   turn();
-  while (*p != 1) park((void *)p);
+  while (*p != 1) park((void *)p, "spin lock");
   *p = 0;
   turn_end();
   return 0;
@@ -120,7 +123,7 @@ EXPORT int pthread_cond_wait(pthread_cond_t *c, pthread_mutex_t *p) {
   int count = m->count;
   slots[me].then = m;
   pass_on(m);
-  park(c);
+  park(c, "condition");
   slots[me].then = NULL;
   m->count = count;
   turn_end();
@@ -139,6 +142,7 @@ void move_on(int w) {
     unpark(w);
   } else {
     slots[w].on = m;
+    slots[w].waits_for = "mutex";
     slots[w].ticket = next_ticket();
   }
 }
@@ -171,7 +175,7 @@ EXPORT int pthread_cond_clockwait(pthread_cond_t *c, pthread_mutex_t *p, clockid
   pass_on(m);
   bool woken = wait_until(c, clock, until);
   turn();
-  if (take_now(m, false) < 0) park(m);
+  if (take_now(m, false) < 0) park(m, "mutex");
   m->count = count;
   turn_end();
   return woken ? 0 : ETIMEDOUT;
@@ -187,7 +191,7 @@ EXPORT int sem_wait(sem_t *s) {
   OFF(next(s));
   turn();
   if (*(unsigned *)s) --*(unsigned *)s;
-  else park(s);
+  else park(s, "semaphore");
   turn_end();
   return 0;
 }
@@ -247,7 +251,7 @@ static int take_rwlock(pthread_rwlock_t *p, bool writes, bool tries, clockid_t c
     }
     slots[me].flag = writes;
     if (!until) {
-      park(p);
+      park(p, "lock of readers and writers");
       continue;
     }
     bool woken = wait_until(p, clock, until);
@@ -321,7 +325,7 @@ EXPORT int pthread_barrier_wait(pthread_barrier_t *p) {
     b->in = 0;
     for (int w; (w = first_waiter(b)) >= 0;) unpark(w);
   } else {
-    park(b);
+    park(b, "barrier");
   }
   turn_end();
   return last ? PTHREAD_BARRIER_SERIAL_THREAD : 0;
@@ -339,7 +343,7 @@ EXPORT int pthread_once(pthread_once_t *p, void (*does)(void)) {
   NEXT(pthread_once);
   OFF(next(p, does));
   turn();
-  while (*p == 1) park(p);
+  while (*p == 1) park(p, "first call of pthread_once");
   bool first = *p == 0;
   if (first) *p = 1;
   turn_end();
@@ -386,7 +390,7 @@ static long wait_futex(int *word, int op, int value, const struct timespec *time
     return errno = EAGAIN, -1;
   }
   if (!time) {
-    park(word);
+    park(word, "futex");
     turn_end();
     return 0;
   }

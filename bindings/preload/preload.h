@@ -73,6 +73,7 @@ typedef struct {
   bool in_call;            /* .. until its call goes on */
   bool parked;
   const void *on;          /* what it is parked at */
+  const char *waits_for;   /* .. and what that is */
   void *then;              /* the mutex that a condition's waiter needs after that */
   uint64_t ticket;         /* who was parked first */
   bool outside, ready;     /* parked for the outside too; which has answered */
@@ -84,6 +85,7 @@ typedef struct {
   bool detached, joined;
   pthread_t id;
   uint64_t calls;          /* that it has made */
+  uint64_t seen;           /* .. and those that who has the turn had made, when it last looked */
   uint64_t outcomes;       /* that came for it */
   uint64_t chance;         /* the state of its delays */
   uint32_t digest;         /* of what it has asked and written since its last outcome */
@@ -105,7 +107,7 @@ extern bool begun;           /* .. and the program goes on by itself: what fails
 
 /* The settings of the run. The log of a rerun has them. */
 typedef struct {
-  bool replays, force, overlap, serial, strict, fixed;  /* fixed: the same addresses in each run */
+  bool replays, force, overlap, serial, strict, waits_forever, fixed;  /* fixed: the same addresses in each run */
   size_t threads;
   uint64_t seed, fault;
   const char *memory;                  /* paths below it live in the run; NULL: none */
@@ -155,7 +157,8 @@ void turn_end(void);  /* one unit of work; gives the lock back, and of a serial 
 void turn_leave(void); /* the same for a thread that leaves the run */
 void begin_turns(void);
 void thread_begins(void);
-void park(const void *on);       /* at the turn: until another thread unparks it, and it has the turn again */
+/* At the turn: until another thread unparks it, and it has the turn again. `what` is a word for what it waits for. */
+void park(const void *on, const char *what);
 bool park_until(const void *on, const struct timespec *until);  /* .. or until then: whether another thread did */
 void park_outside(void (*ready)(void *), void *given);
 void unpark(int i);              /* at the turn */
@@ -172,6 +175,7 @@ extern detio machine;
 
 /* locks.c */
 void move_on(int w);
+int mutex_owner(const void *at);
 
 /* outside.c */
 uint32_t go_outside(void);

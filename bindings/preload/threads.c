@@ -166,7 +166,7 @@ EXPORT int pthread_join(pthread_t thread, void **result) {
     turn_end();
     return EDEADLK;
   }
-  if (i >= 0 && slots[i].state == LIVE) park(&slots[i]);
+  if (i >= 0 && slots[i].state == LIVE) park(&slots[i], "thread");
   int code = join(i, thread, result);
   turn_end();
   return code;
@@ -193,7 +193,7 @@ EXPORT int pthread_clockjoin_np(pthread_t thread, void **result, clockid_t clock
       return ETIMEDOUT;
     }
   } else if (i >= 0 && slots[i].state == LIVE) {
-    park(&slots[i]);
+    park(&slots[i], "thread");
   }
   int code = join(i, thread, result);
   turn_end();

@@ -5,6 +5,7 @@
 #include <linux/futex.h>
 #include <stdio.h>
 #include <stdlib.h>
+#include <string.h>
 #include <sys/syscall.h>
 
 detio machine;
@@ -61,15 +62,36 @@ static void end_with_log(int h, int also) {
 }
 
 /* The slot's word is 0, and the lock is free: sleeps until another thread rouses it, or until this time of
- * CLOCK_MONOTONIC, if there is one: whether it was roused. */
+ * CLOCK_MONOTONIC, or where there is none for two seconds: whether it was roused. */
 static bool sleep_at(slot *s, const struct timespec *until) {
+  static const struct timespec two_seconds = {2, 0};
   for (int spun = 0; spun < 64 && !__atomic_load_n(&s->word, __ATOMIC_ACQUIRE); spun++) __builtin_ia32_pause();
   while (!__atomic_load_n(&s->word, __ATOMIC_ACQUIRE)) {
-    long r =
-        KERNEL(SYS_futex, &s->word, FUTEX_WAIT_BITSET | FUTEX_PRIVATE_FLAG, 0, until, NULL, FUTEX_BITSET_MATCH_ANY);
+    long r = until ? KERNEL(SYS_futex, &s->word, FUTEX_WAIT_BITSET | FUTEX_PRIVATE_FLAG, 0, until, NULL,
+                            FUTEX_BITSET_MATCH_ANY)
+                   : KERNEL(SYS_futex, &s->word, FUTEX_WAIT | FUTEX_PRIVATE_FLAG, 0, &two_seconds);
     if (r == -ETIMEDOUT) return false;
   }
   return true;
+}
+
+/* A thread has the turn, and has made no call for as long as another waited for it: says so, once. */
+static void say_who_computes(int waiter) {
+  static int said = -1;
+  static uint64_t at;
+  int h = holder();
+  const slot *s = &slots[h];
+  place there;
+  if (h < 0 || h == waiter || slots[waiter].parked || s->sleeps || s->parked || (callers >> h & 1)) return;
+  if (s->calls != slots[waiter].seen || s->state != LIVE) {
+    slots[waiter].seen = s->calls;
+    return;
+  }
+  if (said == h && at == s->calls) return;
+  said = h;
+  at = s->calls;
+  say("thread %d has the turn, and made no call for two seconds, while thread %d waits: its last call, %lu, was at %s", h,
+      waiter, s->calls, s->caller ? place_of(s->caller, &there) : "its start");
 }
 
 /* Sleeps until another thread rouses this one, or until then: whether it was roused. The lock is held before and after,
@@ -83,6 +105,12 @@ static bool nap_until(int i, const struct timespec *until) {
   unlock_run();
   bool roused = sleep_at(s, until);
   lock_run();
+  while (!roused && !until) {
+    say_who_computes(i);
+    unlock_run();
+    roused = sleep_at(s, NULL);
+    lock_run();
+  }
   inside--;
   s->sleeps = false;
   return roused;
@@ -95,15 +123,33 @@ static bool comes_back(const slot *s) {
   return s->outside && (run.replays ? s->pushes == s->until : s->ready);
 }
 
-/* Every thread waits for another: the line says which, and at which of its calls. */
-_Noreturn static void end_deadlocked(void) {
-  char line[SLOTS * 40] = "";
-  int length = 0;
+/* What a thread waits for, which is parked at it. */
+static void say_wait(int i) {
+  const slot *s = &slots[i];
+  place at, from;
+  char what[200];
+  bool known = s->waits_for && s->on;
+  int owner = known && !strcmp(s->waits_for, "mutex") ? mutex_owner(s->on) : -1;
+  if (known && !strcmp(s->waits_for, "thread"))
+    snprintf(what, sizeof what, "the end of thread %d", (int)((const slot *)s->on - slots));
+  else if (owner >= 0)
+    snprintf(what, sizeof what, "the mutex of thread %d, %s", owner, place_of(s->on, &at));
+  else
+    snprintf(what, sizeof what, "the %s at %s", known ? s->waits_for : "end", known ? place_of(s->on, &at) : "no place");
+  say("thread %d, in its call %lu at %s, waits for %s", i, s->calls, s->caller ? place_of(s->caller, &from) : "its start",
+      what);
+}
+
+/* Every thread waits for another: lines say which, and for what. The run ends there, or waits as the program would. */
+static bool end_deadlocked(void) {
+  static bool said;
+  if (said) return false;
+  said = true;
   for (size_t i = 0; i < run.threads; i++)
-    if (slots[i].state == LIVE)
-      length += snprintf(line + length, sizeof line - (size_t)length, "%s thread %zu at its call %lu",
-                         length ? "," : "", i, slots[i].calls);
-  ends(DEADLOCK, "deadlock: every thread waits for another:%s", line);
+    if (slots[i].state == LIVE) say_wait((int)i);
+  if (!run.waits_forever) ends(DEADLOCK, "deadlock: every thread waits for another");
+  say("deadlock: every thread waits for another, and the run stays so");
+  return false;
 }
 
 /* Of threads that are parked, while nobody runs: whether the outside will move one of them. A run that nobody moves
@@ -123,7 +169,7 @@ static bool is_moved(void) {
   if (outside) return false;
   if (lacks) ends(LOG_ENDS, "the log ends here: thread %d, at its call %lu, waits for what it does not have", first,
                   slots[first].calls);
-  end_deadlocked();
+  return end_deadlocked();
 }
 
 /* A thread that is parked, or no thread at all, has the turn: it is pushed along, by ever longer steps. How far does
@@ -243,12 +289,13 @@ void thread_begins(void) {
 uint64_t next_ticket(void) { return ++tickets; }
 
 /* At the turn: this thread is parked, of the outside too or not. */
-static void lie_down(const void *what, bool outside) {
+static void lie_down(const void *what, const char *word, bool outside) {
   slot *s = &slots[me];
   s->outside = outside;
   s->ready = s->woken = false;
   s->until = outside && run.replays ? next_pushes(me) : NEVER;
   s->on = what;
+  s->waits_for = word;
   s->ticket = next_ticket();
   s->pushes = 0;
   s->parked = s->wants_turn = true;
@@ -256,8 +303,8 @@ static void lie_down(const void *what, bool outside) {
   settle();
 }
 
-void park(const void *what) {
-  lie_down(what, false);
+void park(const void *what, const char *word) {
+  lie_down(what, word, false);
   await_turn();
 }
 
@@ -265,7 +312,7 @@ void park(const void *what) {
  * again. Of a recording the host's clock says when; of a rerun the log does, by the count of pushes. */
 bool park_until(const void *what, const struct timespec *until) {
   slot *s = &slots[me];
-  lie_down(what, true);
+  lie_down(what, NULL, true);
   if (!run.replays && s->parked && !nap_until(me, until)) s->ready = true;
   await_turn();
   return s->woken;
@@ -274,7 +321,7 @@ bool park_until(const void *what, const struct timespec *until) {
 /* At the turn: parks this thread while `ready` waits for the outside, which is called of a recording alone. It has the
  * turn again. */
 void park_outside(void (*ready)(void *), void *given) {
-  lie_down(NULL, true);
+  lie_down(NULL, NULL, true);
   if (!run.replays) {
     unlock_run();
     inside++; /* as in nap_until */

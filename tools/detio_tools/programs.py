@@ -441,8 +441,69 @@ def stuck(trial: Trial) -> None:
     for number in range(6):
         ran = (trial.rerun("stuck.log", folder=folder) if number else
                trial.run("stuck.log", str(trial.room / "programs/stuck"), folder=folder))
-        trial.check((ran.status, ran.out) == (DEADLOCK, b"two threads\n") and "deadlock" in ran.ours(),
+        trial.check((ran.status, ran.out) == (DEADLOCK, b"2 threads\n") and "deadlock" in ran.ours(),
                     f"stuck: status {ran.status}: {ran.ours()}")
+        where = callers_in(ran, str(trial.room / "programs/stuck"))
+        told = "the end of thread 1" in ran.ours() and all(f"mutex of thread {it}" in ran.ours() for it in (1, 2))
+        trial.check(told and sorted(where) == ["locks", "locks", "main", "one", "other"], f"stuck: {where}: {ran.ours()}")
+    stuck_in_all_ways(trial)
+    stuck_for_ever(trial)
+
+
+def stuck_in_all_ways(trial: Trial) -> None:
+    """What each thread waits for is said, with where it is and who waits."""
+    folder, program = trial.room / "stuck", str(trial.room / "programs/stuck")
+    ran = trial.run("stuck.log", program, "all", folder=folder)
+    trial.check(ran.status == DEADLOCK, f"stuck: status {ran.status}: {ran.ours()}")
+    trial.check(trial.rerun("stuck.log", folder=folder).alone() == ran.alone(), "stuck: all: the rerun differs")
+    for thing, word in (("condition", "condition"), ("semaphore", "semaphore"), ("barrier", "barrier"),
+                        ("rwlock", "lock of readers and writers")):
+        lines = [it for it in ran.err.decode().splitlines() if f"waits for the {word} at stuck" in it]
+        where = callers_in(Ran(0, b"", lines[0].encode()), program) if lines else []
+        trial.check(where == [f"waits_for_{thing}", thing], f"stuck: {thing}: {where}: {ran.ours()}")
+
+
+def stuck_for_ever(trial: Trial) -> None:
+    """With --wait-forever a deadlock is said, and the process stays."""
+    folder, program = trial.room / "stuck", str(trial.room / "programs/stuck")
+    words = [str(trial.library / "detio-launch"), "run", "--wait-forever", "--log", "stays.log", "--force", "--", program]
+    with open(folder / "said", "wb") as err:
+        process = subprocess.Popen(words, cwd=folder, stdout=subprocess.DEVNULL, stderr=err, stdin=subprocess.DEVNULL,
+                                   env=trial.environment())
+        time.sleep(2)
+        stays = process.poll() is None
+        process.kill()
+        process.wait()
+    said = (folder / "said").read_text(encoding="utf-8")
+    trial.check(stays and said.count("and the run stays so") == 1, f"stuck: for ever: {process.returncode}: {said}")
+
+
+def computing(trial: Trial) -> None:
+    """A thread that makes no call for long, while another waits, is said once; and one that waits for a peer is not."""
+    folder, program = trial.room / "computing", str(trial.room / "programs/computes")
+    make_inputs(folder)
+    run = trial.run("computes.log", program, folder=folder)
+    lines = [it for it in run.ours().split("; ") if "has the turn" in it]
+    trial.check(run.status == 0 and len(lines) == 1, f"computes: {run.status}: {run.ours()}")
+    where = callers_in(Ran(0, b"", lines[0].encode()), program) if lines else []
+    trial.check(where == ["computes"], f"computes: its last call was at {where}: {run.ours()}")
+
+
+def quiet(trial: Trial) -> None:
+    """A thread that sleeps, or that waits for a line, holds nobody up, and whoever waits for a mutex waits for that:
+    nothing is said."""
+    folder = trial.room / "quiet"
+    make_inputs(folder)
+    for script in "sleep", "read", "computes":
+        launcher = str(trial.library / "detio-launch")
+        words = [launcher, "run", "--log", "quiet.log", "--force", "--", str(trial.room / "programs/quiet"), script]
+        process = subprocess.Popen(words, cwd=folder, stdout=subprocess.PIPE, stderr=subprocess.PIPE,
+                                   stdin=subprocess.PIPE, env=trial.environment())
+        assert process.stdin
+        time.sleep(6)
+        out, err = process.communicate(b"line\n")
+        trial.check((process.returncode, out) == (0, b"over\n") and b"has the turn" not in err,
+                    f"quiet: {script}: {out!r} {err!r}")
 
 
 def net(trial: Trial) -> None:
@@ -540,9 +601,11 @@ def other_user(trial: Trial) -> None:
 def function_at(program: str, offset: int) -> str:
     """The function of a program that has an address."""
     listed = subprocess.run(["nm", "-S", program], capture_output=True, text=True, check=True).stdout
-    for words in (line.split() for line in listed.splitlines()):
-        if len(words) == 4 and int(words[0], 16) <= offset <= int(words[0], 16) + int(words[1], 16):
-            return words[3]
+    sized = [words for words in (line.split() for line in listed.splitlines()) if len(words) == 4]
+    for more in 0, 1:  # what does not return may end with a call
+        for first, size, _, name in sized:
+            if int(first, 16) <= offset < int(first, 16) + int(size, 16) + more:
+                return name
     return "none"
 
 
@@ -777,6 +840,6 @@ def compare_table(trial: Trial) -> None:
 
 OTHERS: dict[str, Callable[[Trial], None]] = {
     "table": compare_table, "closed": closed_program, "killed": killed, "differing": differing, "statuses":
-    statuses, "stuck": stuck, "net": net, "passed": passed, "faults": faults, "own-identity": other_user, "strangers": strangers, "seeds": seeds, "children": children,
+    statuses, "stuck": stuck, "computes": computing, "quiet": quiet, "net": net, "passed": passed, "faults": faults, "own-identity": other_user, "strangers": strangers, "seeds": seeds, "children": children,
     "units": units, "sanitizers": sanitizers, "addresses": addresses, "few": few_addresses, "in-turn": in_turn,
     "numbers": closed_numbers, "hang": hang_of_pigz, "server": server, "web": web_server}

@@ -645,10 +645,14 @@ of turns, and the same seed the same. With --fault K the K-th outcome from outsi
 With --overlap calls outside overlap: their effects on the host may come in another order than the turns.
 With --parallel threads compute at the same time: races on memory without calls are not repeated.
 
+What is refused, or goes past the run, is said in one line for each kind, with the place that called it. With
+--strict the run ends there. With --wait-forever a deadlock is said, and the run stays as it is.
+
 The status is that of the program, or one of these.
 
 Exit statuses:
   121  deadlock: each thread waits for another
+  122  with --strict, something is refused or not recorded
   125  wrong usage, or a file of detio's own that cannot be read or written
   126  the program cannot be run
   127  the program is not found",
@@ -668,6 +672,8 @@ prints the same time twice.",
         FAULT,
         OVERLAP,
         PARALLEL,
+        STRICT,
+        WAIT_FOREVER,
         ENV,
         PROGRAM,
         WORDS,
@@ -686,11 +692,15 @@ Where the program, its libraries or its words are not those of the log, nothing 
 standard error says what differs. With --force the rerun goes on, and may diverge: then a thread asks for
 something else than the log has there.
 
+With --stop-at the process stops, by SIGSTOP, before a thread makes this call of its own, each from 0 as
+lines say them. A debugger that is attached then finds it there; SIGCONT has it go on.
+
 The status is that of the program, or one of these.
 
 Exit statuses:
   120  the rerun diverges
   121  deadlock: each thread waits for another
+  122  what was recorded with --strict ended so
   123  the log ends before the program does
   124  what is not a log, or a program that is not that of the log
   125  wrong usage, or a file of detio's own that cannot be read or written
@@ -706,7 +716,7 @@ prints twice
   a
   b",
     usage: Some("detio rerun [OPTIONS] --log <FILE> [-- <PROGRAM> [ARGS]...]"),
-    args: &[LOG_TO_RERUN, FORCE_OF_RERUN, PROGRAM, WORDS],
+    args: &[LOG_TO_RERUN, FORCE_OF_RERUN, STOP_AT, PROGRAM, WORDS],
 };
 
 const COMPARE: Subcommand = Subcommand {
@@ -1357,6 +1367,24 @@ const PARALLEL: Argument = Argument {
     id: "parallel",
     help: "Lets threads compute at the same time",
     rules: &[Rule::Flag],
+};
+
+const STRICT: Argument = Argument {
+    id: "strict",
+    help: "Ends the run where something is refused or not recorded",
+    rules: &[Rule::Flag],
+};
+
+const WAIT_FOREVER: Argument = Argument {
+    id: "wait-forever",
+    help: "Does not end a run in which each thread waits for another",
+    rules: &[Rule::Flag],
+};
+
+const STOP_AT: Argument = Argument {
+    id: "stop-at",
+    help: "Stops the process at this call of a thread, for a debugger",
+    rules: &[Rule::Named("THREAD,CALL")],
 };
 
 const ENV: Argument = Argument {
