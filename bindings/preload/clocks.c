@@ -49,7 +49,8 @@ EXPORT int pthread_getcpuclockid(pthread_t thread, clockid_t *to) {
   NEXT(pthread_getcpuclockid);
   OFF(next(thread, to));
   if (!pthread_equal(thread, pthread_self())) {
-    uncovered("pthread_getcpuclockid", "pthread_getcpuclockid of another thread is not covered: refused, in a rerun too");
+    uncovered("pthread_getcpuclockid",
+              "pthread_getcpuclockid of another thread is not covered: refused, in a rerun too");
     return ENOSYS;
   }
   *to = CLOCK_THREAD_CPUTIME_ID;

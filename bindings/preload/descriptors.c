@@ -60,8 +60,8 @@ int64_t plain_call(const detio_call *call, const void *text, size_t length, void
     return errno = error > 0 ? (int)error : EIO, -1;
   }
   if (r.kind == DETIO_FAILURE && (r.error == DETIO_EMFILE || r.error == DETIO_ENFILE))
-    uncovered("numbers", "no number for one more file, pipe or socket: there are 31, and 28 of the host: the call fails, in "
-                         "a rerun too");
+    uncovered("numbers",
+              "no number for one more file, pipe or socket: 31 are there, 28 of the host: it fails, in a rerun too");
   if (r.kind == DETIO_FAILURE) return fails(r.error);
   return r.kind == DETIO_NUMBER ? r.first : r.kind == DETIO_COUNT || r.kind == DETIO_DATA ? (int64_t)r.count : 0;
 }
@@ -769,8 +769,8 @@ EXPORT void *mmap(void *at, size_t length, int prot, int flags, int fd, off_t fr
     return errno = ENODEV, MAP_FAILED;
   }
   if ((flags & MAP_SHARED) && (get_flags(fd) & O_ACCMODE) != O_RDONLY)
-    uncovered("mmap shared", "the shared mapping of descriptor %d is a copy: what is written to the file later is not in it",
-         fd);
+    uncovered("mmap shared",
+              "the shared mapping of descriptor %d is a copy: what is written to the file later is not in it", fd);
   char *bytes = map(at, length, PROT_READ | PROT_WRITE, (flags & ~MAP_SHARED) | MAP_PRIVATE | MAP_ANONYMOUS, -1, 0);
   if (bytes == MAP_FAILED) return bytes;
   for (size_t done = 0; done < length;) {

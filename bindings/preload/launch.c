@@ -23,7 +23,7 @@ extern char **environ;
 
 typedef struct {
   bool reruns, force;
-  const char *log, *threads, *memory, *seed, *fault;
+  const char *log, *threads, *memory, *seed, *fault, *stop;
   bool overlap, parallel, strict, waits_forever;
   const char *passed[16], *kept[256];
   int passes, keeps;
@@ -46,7 +46,7 @@ static const char usage[] =
     "usage: detio run [--log L] [--force] [--threads N] [--mem PREFIX] [--pass PREFIX].. [--seed S] [--fault K]\n"
     "                 [--overlap] [--parallel] [--strict] [--wait-forever] [--env NAME]..\n"
     "                 -- PROGRAM [ARGS]..\n"
-    "       detio rerun --log L [--force] [-- PROGRAM [ARGS]..]\n"
+    "       detio rerun --log L [--force] [--stop-at THREAD,CALL] [-- PROGRAM [ARGS]..]\n"
     "`detio help run` and `detio help rerun` say what each word does\n";
 
 /* A whole number from `least` to `most`, as it was written. */
@@ -60,6 +60,16 @@ static const char *number(const char *option, const char *value, unsigned long l
 }
 static const char *prefix(const char *option, const char *value) {
   if (*value != '/') fails(OURS, "%s takes a path from the root, and not %s", option, value);
+  return value;
+}
+
+/* A thread and a number of its calls. */
+static const char *thread_and_call(const char *option, const char *value) {
+  const char *comma = strchr(value, ',');
+  char thread[8] = "";
+  if (comma && comma - value < (long)sizeof thread) memcpy(thread, value, (size_t)(comma - value));
+  (void)number(option, thread, 0, 15);
+  (void)number(option, comma ? comma + 1 : "", 1, UINT64_MAX);
   return value;
 }
 
@@ -102,6 +112,7 @@ static void read_options(options *to, char **words) {
     if (!strcmp(words[at], "--force")) to->force = true;
     else if (!strcmp(words[at], "--help")) fputs(usage, stdout), exit(0);
     else if (takes("--log", words, &at, &to->log)) continue;
+    else if (to->reruns && takes("--stop-at", words, &at, &to->stop)) (void)thread_and_call("--stop-at", to->stop);
     else if (to->reruns || !run_option(to, words, &at))
       fails(OURS, "%s is no option of %s; the program stands after --\n%s", words[at], words[1], usage);
   }
@@ -298,6 +309,7 @@ int main(int count, char **words) {
   add_entry(&about, "mode", given.reruns ? "rerun" : "run");
   add_entry(&about, "log", path);
   if (given.force) add_entry(&about, "force", "yes");
+  if (given.stop) add_entry(&about, "stop-at", given.stop);
   if (given.reruns) {
     read_log(path);
     compare_program(&given);

@@ -446,7 +446,8 @@ EXPORT long syscall(long n, ...) {
       uncovered(kind, "%s is not covered: refused, in a rerun too", kind);
       return errno = ENOSYS, -1;
     }
-    if (!is_of_process(n)) uncovered(kind, "%s goes past the run: it is not recorded, and a rerun makes it again", kind);
+    if (!is_of_process(n))
+      uncovered(kind, "%s goes past the run: it is not recorded, and a rerun makes it again", kind);
   }
   long r = kernel(n, a, b, c, d, e, f);
   return r < 0 && r > -4096 ? (errno = (int)-r, -1) : r;

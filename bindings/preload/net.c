@@ -100,7 +100,8 @@ void forbid_effects(void) {
   program[n++] = (struct sock_filter)BPF_JUMP(BPF_JMP | BPF_JEQ | BPF_K, SYS_clone3, 0, 1);
   program[n++] = (struct sock_filter)BPF_STMT(BPF_RET | BPF_K, SECCOMP_RET_ERRNO | ENOSYS);
   program[n++] = (struct sock_filter)ALLOW;
-  if (!filter(program, n)) say("this kernel has no filter of system calls: what is not covered may reach outside in a rerun");
+  if (!filter(program, n))
+    say("this kernel has no filter of system calls: what is not covered may reach outside in a rerun");
 }
 
 /* Allows calls that are made within these addresses, whose upper halves are the same. */

@@ -22,14 +22,6 @@
 /* The door of the oracle: no descriptor of the host has this number. */
 #define ORACLE_DOOR (1ull << 20)
 
-/* Before the bytes of each answer. */
-typedef struct {
-  uint64_t pushes;  /* of ASK_WAITED: at which the outside answered, or NEVER */
-  int64_t result;
-  uint32_t digest;  /* of what the thread asked and wrote since its last answer */
-  uint32_t error;
-} head;
-
 static uint64_t outsides; /* outcomes so far that could fail */
 
 void digest(const void *bytes, size_t length) {
@@ -198,11 +190,12 @@ static size_t bytes_of(const question *q, long result) {
 
 static void answer(const question *q, uint8_t *data, detio_outcome *came) {
   slot *s = &slots[me];
-  head h = {.pushes = q->what != ASK_WAITED ? 0 : s->woken ? NEVER : s->pushes, .digest = s->digest};
+  answer_head h = {.what = (uint16_t)q->what, .digest = s->digest};
+  if (q->what == ASK_WAITED) h.pushes = s->woken ? NEVER : s->pushes;
   if (q->room <= 512) memset(data + sizeof h, 0, q->room);
   long result = ask_host(q, data + sizeof h);
   h.result = result < 0 ? -1 : result;
-  h.error = result < 0 ? (uint32_t)-result : 0;
+  h.error = result < 0 ? (uint16_t)-result : 0;
   memcpy(data, &h, sizeof h);
   came->value = came->length = sizeof h + bytes_of(q, result);
 }
@@ -253,13 +246,11 @@ static void reach(const detio_outside *asked, bool goes, uint64_t door, uint8_t 
 }
 
 /* The next outcome of this thread in the log: DETIO_DONE, or the thread lacks it. */
-static uint32_t from_log(detio_outcome *came, uint8_t *data) {
+static uint32_t from_log(const detio_outside *asked, detio_outcome *came, uint8_t *data) {
   slot *s = &slots[me];
   uint32_t code = detio_next(&machine, (size_t)me, came, data, ROOM);
   s->opened = -1;
-  if (code == DETIO_DIVERGED)
-    ends(DIVERGED, "the rerun diverges: thread %d, at its call %lu, asks what outcome %lu of its log does not answer",
-         me, s->calls, s->outcomes + 1);
+  if (code == DETIO_DIVERGED) end_diverged(call_asked(asked, s->asked), NULL);
   if (code == DETIO_END_OF_LOG) s->lacks = true;
   return code;
 }
@@ -275,7 +266,7 @@ uint32_t go_outside(void) {
   if (!code) code = detio_begin_outside(&machine, (size_t)me, &goes, &door);
   if (code) return code;
   if (run.replays) {
-    if (from_log(&came, s->room)) return s->lacks ? DETIO_DONE : DETIO_DIVERGED;
+    if (from_log(&asked, &came, s->room)) return s->lacks ? DETIO_DONE : DETIO_DIVERGED;
   } else {
     bool faulty = is_faulty(&asked, goes && door == ORACLE_DOOR);
     settle();
@@ -295,7 +286,7 @@ uint32_t go_outside(void) {
 int64_t ask(const question *q, void *out, size_t *length) {
   slot *s = &slots[me];
   detio_reply reply;
-  head h;
+  answer_head h;
   digest_question(q);
   s->asked = q;
   make_call(&(detio_call){.kind = DETIO_READ, .descriptor = ORACLE, .number = (int64_t)(sizeof h + q->room)}, NULL, 0,
@@ -303,8 +294,7 @@ int64_t ask(const question *q, void *out, size_t *length) {
   s->asked = NULL;
   if (reply.kind != DETIO_DATA || reply.count < sizeof h) return errno = EIO, -1;
   memcpy(&h, s->room, sizeof h);
-  if (run.replays && h.digest != s->digest)
-    ends(DIVERGED, "the rerun diverges: thread %d, before its call %lu, asked or wrote something else", me, s->calls);
+  if (run.replays && (h.what != q->what || h.digest != s->digest)) end_diverged(question_asked(q), &h);
   s->digest = 0;
   if (out) memcpy(out, s->room + sizeof h, reply.count - sizeof h);
   if (length) *length = reply.count - sizeof h;

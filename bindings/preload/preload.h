@@ -111,6 +111,8 @@ typedef struct {
   size_t threads;
   uint64_t seed, fault;
   const char *memory;                  /* paths below it live in the run; NULL: none */
+  int stop_thread;                     /* of a rerun: it stops at this call of this thread, or at none: -1 */
+  uint64_t stop_call;
   const char *passed[SLOTS];           /* paths below these go to the host unrecorded */
   size_t passes;
 } settings;
@@ -148,6 +150,9 @@ static inline void note_caller(void *from, void *frame) {
 #define NOTE_CALLER() note_caller(__builtin_return_address(0), __builtin_frame_address(0))
 typedef struct { char text[160]; } place;
 const char *place_of(const void *address, place *to);
+static inline const char *caller_text(const slot *s, place *to) {
+  return s->caller ? place_of(s->caller, to) : "its start";
+}
 
 /* turns.c */
 void lock_run(void);
@@ -188,7 +193,21 @@ void wait_outside(void (*ready)(void *), void *given, int16_t *bits, size_t coun
 bool wait_until(const void *on, clockid_t clock, const struct timespec *until);
 void digest(const void *bytes, size_t length);
 
+/* Before the bytes of each answer. */
+typedef struct {
+  uint64_t pushes;  /* of ASK_WAITED: at which the outside answered, or NEVER */
+  int64_t result;
+  uint32_t digest;  /* of what the thread asked and wrote since its last answer */
+  uint16_t error, what;
+} answer_head;
+
+/* diverged.c */
+const char *question_asked(const question *);
+const char *call_asked(const detio_outside *, const question *);  /* a question, where the call is one */
+_Noreturn void end_diverged(const char *asked, const answer_head *); /* what the log has, or NULL: its next record */
+
 /* log.c */
+const uint8_t *next_record(int i, uint8_t *kind, uint8_t *error, size_t *length);
 void open_log(void);
 void write_log(void);
 uint64_t next_pushes(int i);  /* of a rerun: what the next answer for thread i has as its count of pushes */

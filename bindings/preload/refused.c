@@ -63,8 +63,8 @@ REFUSED(shm_unlink, (const char *name), (name))
 REFUSED(pidfd_open, (pid_t pid, unsigned flags), (pid, flags))
 REFUSED(pidfd_getfd, (int fd, int other, unsigned flags), (fd, other, flags))
 REFUSED(pidfd_send_signal, (int fd, int number, siginfo_t *about, unsigned flags), (fd, number, about, flags))
-REFUSES(ssize_t, -1, ENOSYS, process_madvise, (int fd, const struct iovec *parts, size_t count, int how, unsigned flags),
-        (fd, parts, count, how, flags))
+REFUSES(ssize_t, -1, ENOSYS, process_madvise,
+        (int fd, const struct iovec *parts, size_t count, int how, unsigned flags), (fd, parts, count, how, flags))
 REFUSED(process_mrelease, (int fd, unsigned flags), (fd, flags))
 REFUSED(getpt, (void), ())
 REFUSED(posix_openpt, (int how), (how))
@@ -93,7 +93,8 @@ REFUSED(mq_timedsend, (int queue, const char *of, size_t length, unsigned rank, 
         (queue, of, length, rank, until))
 REFUSES(ssize_t, -1, ENOSYS, mq_receive, (int queue, char *to, size_t room, unsigned *rank), (queue, to, room, rank))
 REFUSES(ssize_t, -1, ENOSYS, mq_timedreceive,
-        (int queue, char *to, size_t room, unsigned *rank, const struct timespec *until), (queue, to, room, rank, until))
+        (int queue, char *to, size_t room, unsigned *rank, const struct timespec *until),
+        (queue, to, room, rank, until))
 
 /* What is done to descriptors, and has no call of the machine. */
 REFUSES(ssize_t, -1, ENOSYS, getdents64, (int fd, void *to, size_t room), (fd, to, room))

@@ -1,5 +1,5 @@
-/* Handlers of signals. One that runs at a moment of its own is not repeated, and is said; the kernel has our own handler
- * in the place of the program's, which it calls. */
+/* Handlers of signals. One that runs at a moment of its own is not repeated, and is said. The kernel has our own
+ * handler in place of the program's, which that calls. */
 #define _GNU_SOURCE
 #include "preload.h"
 

@@ -133,8 +133,10 @@ EXPORT int pthread_create(pthread_t *thread, const pthread_attr_t *attr, void *(
       if (k != i && slots[k].state == DONE && pthread_equal(slots[k].id, *thread)) slots[k].state = FREE;
     if (!code) slots[i].id = *thread;
   }
-  if (i < 0) uncovered("slots", "no number for one more thread: pthread_create fails while %lu live, in a rerun too; see --threads",
-                       run.threads);
+  if (i < 0)
+    uncovered("slots",
+              "no number for one more thread: pthread_create fails while %lu live, in a rerun too; see --threads",
+              run.threads);
   else if (code) slots[i].state = FREE;
   turn_end();
   return code;

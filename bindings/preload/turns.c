@@ -3,6 +3,7 @@
 #include "preload.h"
 
 #include <linux/futex.h>
+#include <signal.h>
 #include <stdio.h>
 #include <stdlib.h>
 #include <string.h>
@@ -90,8 +91,8 @@ static void say_who_computes(int waiter) {
   if (said == h && at == s->calls) return;
   said = h;
   at = s->calls;
-  say("thread %d has the turn, and made no call for two seconds, while thread %d waits: its last call, %lu, was at %s", h,
-      waiter, s->calls, s->caller ? place_of(s->caller, &there) : "its start");
+  say("thread %d has the turn, and made no call for two seconds, while thread %d waits: its last call, %lu, was at %s",
+      h, waiter, s->calls, caller_text(s, &there));
 }
 
 /* Sleeps until another thread rouses this one, or until then: whether it was roused. The lock is held before and after,
@@ -135,9 +136,9 @@ static void say_wait(int i) {
   else if (owner >= 0)
     snprintf(what, sizeof what, "the mutex of thread %d, %s", owner, place_of(s->on, &at));
   else
-    snprintf(what, sizeof what, "the %s at %s", known ? s->waits_for : "end", known ? place_of(s->on, &at) : "no place");
-  say("thread %d, in its call %lu at %s, waits for %s", i, s->calls, s->caller ? place_of(s->caller, &from) : "its start",
-      what);
+    snprintf(what, sizeof what, "the %s at %s", known ? s->waits_for : "end",
+             known ? place_of(s->on, &at) : "no place");
+  say("thread %d, in its call %lu at %s, waits for %s", i, s->calls, caller_text(s, &from), what);
 }
 
 /* Every thread waits for another: lines say which, and for what. The run ends there, or waits as the program would. */
@@ -235,9 +236,19 @@ static uint64_t chance(uint64_t *state) {
   return x ^ (x >> 31);
 }
 
+/* The process stops here, until somebody has it go on. */
+static void stop_here(void) {
+  place there;
+  long self = KERNEL(SYS_getpid, 0);
+  say("stopped before call %lu of thread %d, at %s: gdb -p %ld, or kill -CONT %ld", slots[me].calls, me,
+      caller_text(&slots[me], &there), self, self);
+  KERNEL(SYS_kill, self, SIGSTOP);
+}
+
 /* Before a call or a lock of a run with a seed, a delay: whether there was one. */
 static bool delay(void) {
   slots[me].calls++;
+  if (run.stop_thread == me && slots[me].calls == run.stop_call) stop_here();
   if (!run.seed) return false;
   (void)detio_work(&machine, (size_t)me, chance(&slots[me].chance) % 200);
   return true;
@@ -410,7 +421,7 @@ uint32_t make_call(const detio_call *call, const void *text, size_t length, cons
   return_to_program();
   if (code && code != DETIO_NOT_A_CALL)
     ends(code == DETIO_LOG_FULL || code == DETIO_NO_MEMORY ? OURS : DIVERGED,
-         "thread %d, at its call %lu: the machine refuses it (code %u)", me, slots[me].calls, code);
+         "thread %d, in its call %lu: the machine refuses it (code %u)", me, slots[me].calls, code);
   errno = kept;
   return code;
 }

@@ -126,7 +126,7 @@ EXPORT int __wprintf_chk(int k, const wchar_t *s, ...) WITH_ARGUMENTS(s, ((void)
     static int (*next)(FILE *, const wchar_t *, va_list);                                              \
     if (!next) next = (int (*)(FILE *, const wchar_t *, va_list))dlsym(RTLD_NEXT, symbol);             \
     if (!is_stream(&f)) return next(f, s, a);                                                          \
-    uncovered("wscanf", "wscanf and its like are not covered: refused, in a rerun too");                                    \
+    uncovered("wscanf", "wscanf and its like are not covered: refused, in a rerun too");               \
     return errno = ENOSYS, EOF;                                                                        \
   }
 #define SCANS_WIDE_AS(own, symbol, given, call) \

@@ -478,6 +478,61 @@ def stuck_for_ever(trial: Trial) -> None:
     trial.check(stays and said.count("and the run stays so") == 1, f"stuck: for ever: {process.returncode}: {said}")
 
 
+# What a recording asks for, and a rerun in its place; what is said of the rerun, and of its log.
+DIVERGENCES = (
+    ("1", "2", "asks for stat of data.txt; ", "the answer to that of something else"),
+    ("1", "3", "asks for the time; ", "the answer to stat"),
+    ("3", "1", "asks for stat of input.txt; ", "the answer to the time"),
+    ("1", "4", "asks for open of input.txt; ", "the answer to stat"),
+    ("4", "1", "asks for stat of input.txt; ", "open"),
+    ("5", "4", "asks for open of input.txt; ", "the answer to the end of a wait"))
+
+
+def diverges(trial: Trial) -> None:
+    """A divergence says which thread asks for what, where, and what its log has."""
+    folder, program = trial.room / "diverges", str(trial.room / "programs/asks")
+    make_inputs(folder)
+    for was, now, asks, has in DIVERGENCES:
+        trial.run("diverges.log", program, was, folder=folder, given=b"some bytes")
+        launcher = str(trial.library / "detio-launch")
+        again = trial.launch(launcher, "rerun", "--log", "diverges.log", "--force", "--", program, now, folder=folder)
+        line = again.ours().split("; detio: ")[-1]
+        trial.check(again.status == DIVERGED and asks in line and f"its log has {has}" in line and "thread 0, in its call" in
+                    line, f"diverges: {was} {now}: {again.status} {again.ours()}")
+        where = callers_in(Ran(0, b"", f"detio: {line}".encode()), program)
+        trial.check(where == ["asks"], f"diverges: {was} {now}: at {where}: {line}")
+
+
+def stops(trial: Trial) -> None:
+    """A rerun stops before the call that is named, where a debugger finds it, and goes on from there."""
+    folder, program = trial.room / "stops", str(trial.room / "programs/asks")
+    make_inputs(folder)
+    run = trial.run("stops.log", program, "1", folder=folder)
+    launcher = str(trial.library / "detio-launch")
+    again = trial.launch(launcher, "rerun", "--log", "stops.log", "--force", "--", program, "3", folder=folder)
+    call = re.search(r"in its call (\d+) ", again.ours())
+    if not trial.check(call is not None, f"stops: {again.ours()}") or not call:
+        return
+    words = [launcher, "rerun", "--log", "stops.log", "--stop-at", f"0,{call[1]}"]
+    process = subprocess.Popen(words, cwd=folder, stdout=subprocess.PIPE, stderr=subprocess.PIPE, stdin=subprocess.DEVNULL,
+                               env=trial.environment())
+    _, status = os.waitpid(process.pid, os.WUNTRACED)
+    trial.check(os.WIFSTOPPED(status) and os.WSTOPSIG(status) == signal.SIGSTOP, f"stops: the process did not: {status}")
+    if shutil.which("gdb"):
+        seen_there = subprocess.run(["gdb", "-batch", "-p", str(process.pid), "-ex", "bt"], capture_output=True, text=True)
+        trial.check("asks" in seen_there.stdout, f"stops: gdb does not find it: {seen_there.stdout[-500:]}")
+    else:
+        trial.leaves_out("gdb", 1)
+    process.send_signal(signal.SIGCONT)
+    out, err = process.communicate()
+    ran = Ran(process.returncode, out, err)
+    trial.check(ran.alone() == run.alone(), f"stops: the rerun differs: {ran.status} {ran.ours()}")
+    trial.check(callers_in(ran, program) == ["asks"], f"stops: {ran.ours()}")
+    for wrong in "0", "0,", ",5", "16,1", "0,0", "0,x":
+        refused = trial.launch(launcher, "rerun", "--log", "stops.log", "--stop-at", wrong, folder=folder)
+        trial.check(refused.status == OURS, f"stops: {wrong}: {refused.status}")
+
+
 def computing(trial: Trial) -> None:
     """A thread that makes no call for long, while another waits, is said once; and one that waits for a peer is not."""
     folder, program = trial.room / "computing", str(trial.room / "programs/computes")
@@ -840,6 +895,6 @@ def compare_table(trial: Trial) -> None:
 
 OTHERS: dict[str, Callable[[Trial], None]] = {
     "table": compare_table, "closed": closed_program, "killed": killed, "differing": differing, "statuses":
-    statuses, "stuck": stuck, "computes": computing, "quiet": quiet, "net": net, "passed": passed, "faults": faults, "own-identity": other_user, "strangers": strangers, "seeds": seeds, "children": children,
+    statuses, "stuck": stuck, "diverges": diverges, "stops": stops, "computes": computing, "quiet": quiet, "net": net, "passed": passed, "faults": faults, "own-identity": other_user, "strangers": strangers, "seeds": seeds, "children": children,
     "units": units, "sanitizers": sanitizers, "addresses": addresses, "few": few_addresses, "in-turn": in_turn,
     "numbers": closed_numbers, "hang": hang_of_pigz, "server": server, "web": web_server}

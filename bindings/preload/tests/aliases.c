@@ -126,7 +126,7 @@ static void locks(void) {
   TELL(OLD(pthread_rwlock_rdlock, "__pthread_rwlock_rdlock")(&lock));
   TELL(OLD(pthread_rwlock_tryrdlock, "__pthread_rwlock_tryrdlock")(&lock));
   TELL(OLD(pthread_rwlock_trywrlock, "__pthread_rwlock_trywrlock")(&lock));
-  TELL(OLD(pthread_rwlock_unlock, "__pthread_rwlock_unlock")(&lock) + OLD(pthread_rwlock_unlock, "__pthread_rwlock_unlock")(&lock));
+  for (int i = 0; i < 2; i++) TELL(OLD(pthread_rwlock_unlock, "__pthread_rwlock_unlock")(&lock));
   TELL(OLD(pthread_rwlock_wrlock, "__pthread_rwlock_wrlock")(&lock));
   SAY(__sched_yield_() + OLD(sched_yield, "pthread_yield")());
 }

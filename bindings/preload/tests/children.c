@@ -1,4 +1,5 @@
-/* children N: starts a program in one of fourteen ways, goes on as another process, or ends at once. The status is 3 where that was refused. */
+/* children N: starts a program in one of fourteen ways, goes on as another process, or ends at once. The status is 3
+ * where that was refused. */
 #define _GNU_SOURCE
 #include <errno.h>
 #include <fcntl.h>

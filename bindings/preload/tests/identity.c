@@ -1,5 +1,5 @@
-/* Who runs the program, what it inherits, and calls on descriptors and names that few programs make: a line for each, as
- * the kernel has it. */
+/* Who runs the program, what it inherits, and calls on descriptors and names that few programs make: a line for each,
+ * as the kernel has it. */
 #define _GNU_SOURCE
 #include "said.h"
 

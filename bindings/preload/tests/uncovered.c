@@ -1,5 +1,5 @@
-/* What is not covered: each call fails with its error, and says so. Each is made by its name alone, without a type: none
- * comes to look at what it is given. */
+/* What is not covered: each call fails with its error, and says so. Each is made by its name alone, without a type:
+ * none comes to look at what it is given. */
 #define _GNU_SOURCE
 #include <errno.h>
 #include <stdarg.h>
