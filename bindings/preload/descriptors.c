@@ -69,11 +69,18 @@ static int64_t call_on(int fd, uint32_t kind, int64_t number) {
   return plain_call(&(detio_call){.kind = kind, .descriptor = fd, .number = number}, NULL, 0, NULL, 0);
 }
 
+int number_for(const opened_file *file) {
+  for (int fd = 0; fd < NUMBERS; fd++)
+    if (numbers[fd] == file) return fd;
+  return -1;
+}
 /* What a number refers to from now on. What it referred to before stays, since a thread may be in a call on it. */
 static void refer(int fd, opened_file *file) {
   if (fd < 0 || fd >= NUMBERS) return;
+  opened_file *before = numbers[fd];
   numbers[fd] = file;
   closes_on_exec[fd] = false;
+  if (before && before != file && number_for(before) < 0) note_closed(before, true, true);
 }
 void *new_opened(int fd, enum kind kind, int real) {
   lock_run();
@@ -200,21 +207,6 @@ EXPORT int close_range(unsigned first, unsigned last, int flags) {
 EXPORT void closefrom(int first) { (void)close_range(first < 0 ? 0 : (unsigned)first, UINT_MAX, 0); }
 
 /* Reads and writes. A read or a write of a stream waits for its peer before it is made: so it holds nobody up. */
-typedef struct { struct pollfd *doors; nfds_t count; int64_t nanos; int16_t *bits; } readiness;
-static void poll_doors(void *given) {
-  readiness *r = given;
-  struct timespec t = {r->nanos / 1000000000, r->nanos % 1000000000};
-  long n = KERNEL(SYS_ppoll, r->doors, r->count, r->nanos < 0 ? NULL : &t, NULL, 0);
-  for (nfds_t i = 0; i < r->count; i++) r->bits[i] = n > 0 ? r->doors[i].revents : 0;
-}
-/* Waits until one of these doors is ready, or for so long (-1: for ever): what each is ready for. */
-static void await_doors(struct pollfd *doors, nfds_t count, int64_t nanos) {
-  int16_t bits[64] = {0};
-  readiness r = {doors, count, nanos, bits};
-  turn();
-  wait_outside(poll_doors, &r, bits, count);
-  for (nfds_t i = 0; i < count; i++) doors[i].revents = bits[i];
-}
 void wait_for_door(int fd, short events) {
   const opened_file *f = opened_at(fd);
   struct pollfd door = {.fd = f->real, .events = events};
@@ -225,6 +217,9 @@ void wait_for_door(int fd, short events) {
 /* A read at the descriptor's offset, or where `at` is none of it. */
 static ssize_t reads(int fd, void *bytes, size_t count, off_t at) {
   const opened_file *f = opened_at(fd);
+  if (f->kind == EVENT && at < 0) return read_event(f, bytes, count);
+  if (f->kind == EVENT || f->kind == EPOLL) return errno = at < 0 ? EINVAL : ESPIPE, -1;
+  forget_told(f);
   bool all = f->kind == HOST && !f->waits ? true : f->kind == MEMORY;
   size_t done = 0;
   if (at < 0 && count) wait_for_door(fd, POLLIN);
@@ -241,6 +236,7 @@ static ssize_t reads(int fd, void *bytes, size_t count, off_t at) {
     }
     if (got < 0 && errno == EINTR && !done && !f->nonblock) continue; /* the patience was over */
     if (got < 0) return done ? (ssize_t)done : -1;
+    note_moved(f, got, 0);
     done += (size_t)got;
     if ((size_t)got < piece || !all) break;
   } while (done < count);
@@ -295,6 +291,9 @@ static ssize_t writes(int fd, const char *bytes, size_t count, off_t at) {
   const opened_file *f = opened_at(fd);
   if (f->kind == STANDARD && at >= 0) return errno = ESPIPE, -1; /* as of a pipe: see lseek */
   if (f->kind == STANDARD) return write_standard(f->real, bytes, count);
+  if (f->kind == EVENT && at < 0) return write_event(f, bytes, count);
+  if (f->kind == EVENT || f->kind == EPOLL) return errno = at < 0 ? EINVAL : ESPIPE, -1;
+  forget_told(f);
   if (at < 0) digest(bytes, f->kind == HOST || f->kind == STREAM ? count : 0);
   size_t done = 0;
   do {
@@ -308,6 +307,7 @@ static ssize_t writes(int fd, const char *bytes, size_t count, off_t at) {
                                      .position = at + (off_t)done}, bytes + done, piece, NULL, 0);
     if (got < 0 && errno == EINTR && !f->nonblock) continue;
     if (got < 0) return done ? (ssize_t)done : -1;
+    note_moved(f, 0, got);
     done += (size_t)got;
     if ((size_t)got < piece && (f->nonblock || f->kind == MEMORY || f->kind == HOST)) break;
   } while (done < count);
@@ -400,7 +400,7 @@ EXPORT off_t lseek(int fd, off_t offset, int whence) {
   OFF(next(fd, offset, whence));
   if (!is_ours(fd)) return next(fd, offset, whence);
   enum kind kind = opened_at(fd)->kind;
-  if (kind == STANDARD || kind == STREAM || kind == SOCKET) return errno = ESPIPE, -1;
+  if (kind >= STREAM) return errno = ESPIPE, -1;
   if (whence > SEEK_END) return errno = EINVAL, -1; /* SEEK_DATA, SEEK_HOLE */
   return plain_call(&(detio_call){.kind = DETIO_LSEEK, .descriptor = fd, .number = offset, .choice = (uint32_t)whence},
                     NULL, 0, NULL, 0);
@@ -646,13 +646,15 @@ EXPORT int isfdtype(int fd, int type) {
 static int make_pair(uint32_t kind, int *fds, int flags) {
   detio_reply r;
   make_call(&(detio_call){.kind = kind}, NULL, 0, NULL, 0, &r, NULL, 0);
+  opened_file *ends[2];
   if (r.kind != DETIO_PAIR) return fails(r.error);
   for (int i = 0; i < 2; i++) {
     fds[i] = (int)(i ? r.second : r.first);
-    new_opened(fds[i], PIPE, -1);
+    ends[i] = new_opened(fds[i], PIPE, -1);
     closes_on_exec[fds[i]] = flags & O_CLOEXEC;
     if (flags & O_NONBLOCK) set_flags(fds[i], O_NONBLOCK);
   }
+  join_ends(ends[0], ends[1], kind == DETIO_SOCKETPAIR);
   return 0;
 }
 EXPORT int pipe(int fds[2]) {
@@ -671,85 +673,6 @@ EXPORT int socketpair(int domain, int type, int protocol, int fds[2]) {
   OFF(next(domain, type, protocol, fds));
   if ((type & 15) != 1) return errno = EPROTONOSUPPORT, -1;
   return make_pair(DETIO_SOCKETPAIR, fds, type & (O_NONBLOCK | O_CLOEXEC));
-}
-
-/* Readiness: of doors. What is in memory counts as ready. */
-static bool is_door(int fd) {
-  const opened_file *f = opened_at(fd);
-  return f->kind == STREAM || f->kind == LISTENER || (f->kind == HOST && f->waits) || f->kind == STANDARD;
-}
-static int poll_all(struct pollfd *fds, nfds_t count, int64_t nanos) {
-  struct pollfd doors[64];
-  int ready = 0;
-  if (count > 64) return errno = EINVAL, -1;
-  for (nfds_t i = 0; i < count; i++) {
-    bool ours = is_ours(fds[i].fd), there = opened_at(fds[i].fd)->kind != NONE;
-    doors[i] = (struct pollfd){ours && is_door(fds[i].fd) ? real_of(fds[i].fd) : -1, fds[i].events, 0};
-    if (fds[i].fd >= 0 && doors[i].fd < 0) ready++;
-    fds[i].revents = fds[i].fd < 0 ? 0 : !there ? POLLNVAL : (short)(fds[i].events & (POLLIN | POLLOUT));
-  }
-  await_doors(doors, count, ready ? 0 : nanos);
-  ready = 0;
-  for (nfds_t i = 0; i < count; i++) {
-    if (is_ours(fds[i].fd) && is_door(fds[i].fd)) fds[i].revents = doors[i].revents;
-    ready += fds[i].revents != 0;
-  }
-  return ready;
-}
-EXPORT int poll(struct pollfd *fds, nfds_t count, int millis) {
-  NEXT(poll);
-  OFF(next(fds, count, millis));
-  return poll_all(fds, count, millis < 0 ? -1 : millis * (int64_t)1000000);
-}
-EXPORT int __poll_chk(struct pollfd *fds, nfds_t count, int millis, size_t room) {
-  if (count * sizeof *fds > room) abort();
-  return poll(fds, count, millis);
-}
-static int64_t nanos_of(const struct timespec *time) {
-  return time ? time->tv_sec * (int64_t)1000000000 + time->tv_nsec : -1;
-}
-EXPORT int __ppoll_chk(struct pollfd *fds, nfds_t count, const struct timespec *time, const sigset_t *mask,
-                       size_t room) {
-  if (count * sizeof *fds > room) abort();
-  return ppoll(fds, count, time, mask);
-}
-EXPORT int ppoll(struct pollfd *fds, nfds_t count, const struct timespec *time, const sigset_t *mask) {
-  NEXT(ppoll);
-  OFF(next(fds, count, time, mask));
-  return poll_all(fds, count, nanos_of(time));
-}
-static int select_all(int count, fd_set *in, fd_set *out, fd_set *other, int64_t nanos) {
-  struct pollfd fds[64];
-  nfds_t n = 0;
-  int ready = 0;
-  if (count < 0) return errno = EINVAL, -1;
-  for (int fd = 0; fd < count && n < 64; fd++) {
-    short events = (in && FD_ISSET(fd, in) ? POLLIN : 0) | (out && FD_ISSET(fd, out) ? POLLOUT : 0);
-    if (events) fds[n++] = (struct pollfd){fd, events, 0};
-  }
-  if (poll_all(fds, n, nanos) < 0) return -1;
-  size_t bytes = ((size_t)count + 63) / 64 * 8; /* a set may be no longer than its numbers take */
-  if (in) memset(in, 0, bytes);
-  if (out) memset(out, 0, bytes);
-  if (other) memset(other, 0, bytes);
-  for (nfds_t i = 0; i < n; i++) {
-    if (fds[i].revents & POLLNVAL) return errno = EBADF, -1;
-    if (fds[i].events & POLLIN && fds[i].revents & (POLLIN | POLLHUP | POLLERR)) FD_SET(fds[i].fd, in), ready++;
-    if (fds[i].events & POLLOUT && fds[i].revents & (POLLOUT | POLLERR)) FD_SET(fds[i].fd, out), ready++;
-  }
-  return ready;
-}
-EXPORT int select(int count, fd_set *in, fd_set *out, fd_set *other, struct timeval *time) {
-  NEXT(select);
-  OFF(next(count, in, out, other, time));
-  int64_t nanos = time ? time->tv_sec * (int64_t)1000000000 + time->tv_usec * (int64_t)1000 : -1;
-  return select_all(count, in, out, other, nanos);
-}
-EXPORT int pselect(int count, fd_set *in, fd_set *out, fd_set *other, const struct timespec *time,
-                   const sigset_t *mask) {
-  NEXT(pselect);
-  OFF(next(count, in, out, other, time, mask));
-  return select_all(count, in, out, other, nanos_of(time));
 }
 
 /* A file of the host that is mapped is read: privately or for reading alone. The system call is made here, since an

@@ -306,10 +306,11 @@ int64_t asks(enum ask what, int at, const char *path, int64_t a, void *out, size
   return ask(&(question){.what = what, .at = at, .path = path, .a = a, .room = room}, out, NULL);
 }
 
-void wait_outside(void (*ready)(void *), void *given, int16_t *bits, size_t count) {
-  park_outside(ready, given);
+bool wait_outside(const void *what, void (*ready)(void *), void *given, int16_t *bits, size_t count) {
+  bool woken = park_outside(what, ready, given);
   unlock_run();
   (void)ask(&(question){.what = ASK_WAITED, .bytes = bits, .length = 2 * count, .room = 2 * count}, bits, NULL);
+  return woken;
 }
 
 /* A time of another clock as one of CLOCK_MONOTONIC. */

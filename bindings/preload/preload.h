@@ -27,6 +27,7 @@
 #include <sys/types.h>
 #include <time.h>
 
+struct pollfd;
 #define EXPORT __attribute__((visibility("default")))
 
 enum {
@@ -81,6 +82,8 @@ typedef struct {
   uint64_t pushes;         /* since it was parked */
   uint64_t until;          /* of a rerun: at how many pushes the outside answers, or NEVER */
   bool lacks;              /* of a rerun: the log has no outcome for its call */
+  bool at_host;            /* parked, and waits there */
+  int waker;               /* of a recording: a descriptor of the host that has it come back from there, or 0 */
   bool flag;               /* of a reader or writer: it wants to write */
   bool detached, joined;
   pthread_t id;
@@ -165,7 +168,9 @@ void thread_begins(void);
 /* At the turn: until another thread unparks it, and it has the turn again. `what` is a word for what it waits for. */
 void park(const void *on, const char *what);
 bool park_until(const void *on, const struct timespec *until);  /* .. or until then: whether another thread did */
-void park_outside(void (*ready)(void *), void *given);
+/* .. or until `ready` comes back from the outside; it is called of a recording alone, and ends where the thread's waker
+ * can be read. Whether another thread did. */
+bool park_outside(const void *on, void (*ready)(void *), void *given);
 void unpark(int i);              /* at the turn */
 int first_waiter(const void *on);
 uint64_t next_ticket(void);
@@ -188,7 +193,7 @@ int64_t ask(const question *, void *answer, size_t *length);
 int64_t asks(enum ask what, int at, const char *path, int64_t a, void *answer, size_t room);
 /* At the turn, which it gives up with the lock: waits for the outside, which has one record. `ready` says what is
  * there, in `count` bits of `bits`, and is called of a recording alone. */
-void wait_outside(void (*ready)(void *), void *given, int16_t *bits, size_t count);
+bool wait_outside(const void *on, void (*ready)(void *), void *given, int16_t *bits, size_t count);
 /* .. until another thread unparks it from this, or until this time of this clock: whether it was unparked. */
 bool wait_until(const void *on, clockid_t clock, const struct timespec *until);
 void digest(const void *bytes, size_t length);
@@ -222,15 +227,24 @@ void uncovered(const char *kind, const char *format, ...) __attribute__((format(
 void uncovered_at(const void *caller, const char *kind, const char *format, ...) __attribute__((format(printf, 3, 4)));
 
 /* descriptors.c: what is known of each number of the machine */
-enum kind { NONE, MEMORY, PIPE, HOST, STREAM, LISTENER, SOCKET, STANDARD };
+enum kind { NONE, MEMORY, PIPE, HOST, STREAM, LISTENER, SOCKET, STANDARD, EVENT, EPOLL };
+/* What is on its way in memory, from one end to the other. */
+typedef struct {
+  int64_t filled;
+  int64_t most;   /* bytes; where so many are there, a write waits */
+  bool reader_gone, writer_gone;
+} channel;
 typedef struct {
   enum kind kind;
   int real;       /* the descriptor of the host; of STANDARD 1 or 2 */
   bool nonblock, directory, waits;
+  channel *in, *out; /* of an end of a pipe or pair */
+  void *object;      /* of EVENT and EPOLL */
 } opened_file;
 bool is_ours(int fd);
 opened_file *opened_at(int fd);
 int real_of(int fd);
+int number_for(const opened_file *); /* the least that refers to it, or -1 */
 int number_named(const char *path);
 int fails(uint32_t error);
 int takes_door(int real);  /* a number for what is open at the host, of a recording, or of its log */
@@ -239,6 +253,24 @@ int64_t plain_call(const detio_call *, const void *text, size_t length, void *da
 void *new_opened(int fd, enum kind kind, int real);
 void begin_descriptors(void);
 void wait_for_door(int fd, short events);
+
+/* readiness.c */
+void note_moved(const opened_file *, int64_t taken, int64_t put);
+void note_closed(const opened_file *, bool reads, bool writes); /* this end does not any more */
+void join_ends(opened_file *, opened_file *, bool both_ways);
+void await_doors(struct pollfd *doors, size_t count, int64_t nanos);
+void wake_pollers(void); /* at the turn */
+int64_t now_in_recording(void);
+enum { LOOKS_AGAIN = -2 };
+/* Waits until one is ready, or for so long (-1: for ever): how many are; or LOOKS_AGAIN, once `changes` (if it is not
+ * NULL) is another number than `seen`. */
+int poll_all(struct pollfd *fds, size_t count, int64_t nanos, const unsigned *changes, unsigned seen);
+
+/* events.c */
+short ready_event(const opened_file *, short events);
+ssize_t read_event(const opened_file *, void *to, size_t room);
+ssize_t write_event(const opened_file *, const void *of, size_t length);
+void forget_told(const opened_file *);
 
 /* names.c */
 enum where { IN_RUN, PASSED, OUTSIDE };

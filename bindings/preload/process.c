@@ -53,7 +53,7 @@ static int await_signal(signals *w) {
   uint64_t kept;
   if (w->suspends) KERNEL(SYS_rt_sigprocmask, SIG_BLOCK, &all, &kept, 8);
   turn();
-  wait_outside(wait_signal, w, &w->number, 1);
+  (void)wait_outside(NULL, wait_signal, w, &w->number, 1);
   take_again(w);
   if (w->suspends) KERNEL(SYS_rt_sigprocmask, SIG_SETMASK, &kept, NULL, 8);
   return w->number;

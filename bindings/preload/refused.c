@@ -10,8 +10,6 @@
 #include <signal.h>
 #include <stdio.h>
 #include <stdlib.h>
-#include <sys/epoll.h>
-#include <sys/eventfd.h>
 #include <sys/mman.h>
 #include <sys/socket.h>
 #include <sys/time.h>
@@ -35,17 +33,6 @@
 #define REFUSED(name, given, passed) REFUSES(int, -1, ENOSYS, name, given, passed)
 
 /* What makes descriptors that the machine does not have, and what is done with them. */
-REFUSED(epoll_create, (int n), (n))
-REFUSED(epoll_create1, (int flags), (flags))
-REFUSED(epoll_ctl, (int e, int what, int fd, struct epoll_event *of), (e, what, fd, of))
-REFUSED(epoll_wait, (int e, struct epoll_event *to, int room, int millis), (e, to, room, millis))
-REFUSED(epoll_pwait, (int e, struct epoll_event *to, int room, int millis, const sigset_t *set),
-        (e, to, room, millis, set))
-REFUSED(epoll_pwait2, (int e, struct epoll_event *to, int room, const struct timespec *time, const sigset_t *set),
-        (e, to, room, time, set))
-REFUSED(eventfd, (unsigned value, int flags), (value, flags))
-REFUSED(eventfd_read, (int fd, eventfd_t *value), (fd, value))
-REFUSED(eventfd_write, (int fd, eventfd_t value), (fd, value))
 REFUSED(timerfd_create, (int clock, int flags), (clock, flags))
 REFUSED(timerfd_gettime, (int fd, struct itimerspec *to), (fd, to))
 REFUSED(timerfd_settime, (int fd, int how, const struct itimerspec *time, struct itimerspec *old),

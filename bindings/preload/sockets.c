@@ -123,6 +123,7 @@ EXPORT int accept4(int fd, struct sockaddr *from, socklen_t *length, int flags) 
   OFF(next(fd, from, length, flags));
   if (!is_ours(fd)) return next(fd, from, length, flags);
   int got;
+  forget_told(opened_at(fd));
   do {
     wait_for_door(fd, POLLIN);
     got = (int)plain_call(&(detio_call){.kind = DETIO_TCP_ACCEPT, .descriptor = fd}, NULL, 0, NULL, 0);
@@ -143,8 +144,10 @@ EXPORT int shutdown(int fd, int how) {
   NEXT(shutdown);
   OFF(next(fd, how));
   if (!is_ours(fd)) return next(fd, how);
-  return (int)plain_call(&(detio_call){.kind = DETIO_SHUTDOWN, .descriptor = fd, .choice = (uint32_t)how}, NULL, 0,
-                         NULL, 0);
+  int r = (int)plain_call(&(detio_call){.kind = DETIO_SHUTDOWN, .descriptor = fd, .choice = (uint32_t)how}, NULL, 0,
+                          NULL, 0);
+  if (!r) note_closed(opened_at(fd), how != SHUT_WR, how != SHUT_RD);
+  return r;
 }
 
 static bool is_socket(int fd) {

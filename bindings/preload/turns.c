@@ -329,25 +329,27 @@ bool park_until(const void *what, const struct timespec *until) {
   return s->woken;
 }
 
-/* At the turn: parks this thread while `ready` waits for the outside, which is called of a recording alone. It has the
- * turn again. */
-void park_outside(void (*ready)(void *), void *given) {
-  lie_down(NULL, NULL, true);
-  if (!run.replays) {
+bool park_outside(const void *what, void (*ready)(void *), void *given) {
+  lie_down(what, NULL, true);
+  if (!run.replays && slots[me].parked) {
+    slots[me].at_host = true;
     unlock_run();
     inside++; /* as in nap_until */
     ready(given);
     inside--;
     lock_run();
+    slots[me].at_host = false;
     slots[me].ready = true;
   }
   await_turn();
+  return slots[me].woken;
 }
 
 void unpark(int i) {
   slots[i].parked = slots[i].outside = false;
   slots[i].woken = true;
   slots[i].on = NULL;
+  if (slots[i].at_host && slots[i].waker > 0) KERNEL(SYS_write, slots[i].waker, &(uint64_t){1}, sizeof(uint64_t));
 }
 
 /* The thread that was parked first at this, or -1. */

@@ -63,6 +63,10 @@ CASES = (
     Case("identity", ("@identity",), input="input.txt"),
     Case("others", ("@others",), input="input.txt", stdin=True),
     Case("aliases", ("@aliases",), input="input.txt", stdin=True),
+    Case("polls", ("@polls",), reruns=10),
+    Case("polls in parallel", ("@polls",), ("--parallel",), reruns=10),
+    Case("events", ("@events",), input="input.txt", reruns=10),
+    Case("events in parallel", ("@events",), ("--parallel",), input="input.txt", reruns=10),
     Case("uncovered", ("@uncovered",), native=False),
     Case("locks", ("@locks",)),
     Case("threads", ("@threads",)),
@@ -102,6 +106,7 @@ CASES = (
                     DATA, "-frames:v", "20", "-c:v", "mpeg4", "-f", "framemd5", "-"), (), ("ffmpeg",), native=False),
     Case("Perl", ("/usr/bin/perl", "{tests}/threads.pl"), (), ("/usr/bin/perl",), native=False),
     Case("Python", ("/usr/bin/python3", "-S", "{tests}/threads.py"), (), ("/usr/bin/python3",), native=False),
+    Case("asyncio", ("/usr/bin/python3", "-S", "{tests}/asyncs.py"), (), ("/usr/bin/python3",)),
 )
 
 

@@ -6,8 +6,6 @@
 #include <pthread.h>
 #include <signal.h>
 #include <stdlib.h>
-#include <sys/epoll.h>
-#include <sys/eventfd.h>
 #include <sys/fanotify.h>
 #include <sys/inotify.h>
 #include <sys/mman.h>
@@ -50,9 +48,6 @@ static void must(const char *what, int result) {
 int main(void) {
   sigset_t set;
   sigemptyset(&set);
-  REFUSED(epoll_create(1));
-  REFUSED(epoll_create1(0));
-  REFUSED(eventfd(0, 0));
   REFUSED(timerfd_create(CLOCK_REALTIME, 0));
   REFUSED(signalfd(-1, &set, 0));
   REFUSED(inotify_init());

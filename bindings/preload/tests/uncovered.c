@@ -47,15 +47,6 @@ static void scans(const wchar_t *format, ...) {
 
 int main(void) {
   scans(L"%d", &wrong);
-  REFUSED(epoll_create, ENOSYS);
-  REFUSED(epoll_create1, ENOSYS);
-  REFUSED(epoll_ctl, ENOSYS);
-  REFUSED(epoll_wait, ENOSYS);
-  REFUSED(epoll_pwait, ENOSYS);
-  REFUSED(epoll_pwait2, ENOSYS);
-  REFUSED(eventfd, ENOSYS);
-  REFUSED(eventfd_read, ENOSYS);
-  REFUSED(eventfd_write, ENOSYS);
   REFUSED(timerfd_create, ENOSYS);
   REFUSED(timerfd_gettime, ENOSYS);
   REFUSED(timerfd_settime, ENOSYS);
