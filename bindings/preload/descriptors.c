@@ -218,7 +218,8 @@ void wait_for_door(int fd, short events) {
 static ssize_t reads(int fd, void *bytes, size_t count, off_t at) {
   const opened_file *f = opened_at(fd);
   if (f->kind == EVENT && at < 0) return read_event(f, bytes, count);
-  if (f->kind == EVENT || f->kind == EPOLL) return errno = at < 0 ? EINVAL : ESPIPE, -1;
+  if (f->kind == TIMER && at < 0) return read_timer(f, bytes, count);
+  if (f->kind >= EVENT) return errno = at < 0 ? EINVAL : ESPIPE, -1;
   forget_told(f);
   bool all = f->kind == HOST && !f->waits ? true : f->kind == MEMORY;
   size_t done = 0;
@@ -292,7 +293,7 @@ static ssize_t writes(int fd, const char *bytes, size_t count, off_t at) {
   if (f->kind == STANDARD && at >= 0) return errno = ESPIPE, -1; /* as of a pipe: see lseek */
   if (f->kind == STANDARD) return write_standard(f->real, bytes, count);
   if (f->kind == EVENT && at < 0) return write_event(f, bytes, count);
-  if (f->kind == EVENT || f->kind == EPOLL) return errno = at < 0 ? EINVAL : ESPIPE, -1;
+  if (f->kind >= EVENT) return errno = at < 0 ? EINVAL : ESPIPE, -1;
   forget_told(f);
   if (at < 0) digest(bytes, f->kind == HOST || f->kind == STREAM ? count : 0);
   size_t done = 0;

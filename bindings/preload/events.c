@@ -21,8 +21,13 @@ struct epoll { interest all[NUMBERS]; };
 static unsigned changes; /* of what epolls look at */
 static bool any_edge;
 
+void look_again(void) {
+  changes++;
+  wake_pollers();
+}
+
 /* A number for an object of this kind, or -1. */
-static int new_number(enum kind kind, size_t size, void **object, int flags) {
+int new_number(enum kind kind, size_t size, void **object, int flags) {
   detio_call c = {.kind = DETIO_OPEN, .choice = DETIO_READ_WRITE};
   int fd = (int)plain_call(&c, "/.std", 5, NULL, 0);
   if (fd < 0) return fd;
@@ -111,7 +116,7 @@ void forget_told(const opened_file *file) {
     const opened_file *f = opened_at(fd);
     for (int i = 0; f->kind == EPOLL && i < NUMBERS; i++) {
       interest *it = &((struct epoll *)f->object)->all[i];
-      bool inside_run = it->file && (it->file->kind == PIPE || it->file->kind == EVENT);
+      bool inside_run = it->file && (it->file->kind == PIPE || it->file->kind >= EVENT);
       if (file ? it->file == file : inside_run) it->told = 0;
     }
   }
@@ -143,8 +148,7 @@ EXPORT int epoll_ctl(int at, int what, int fd, struct epoll_event *of) {
   if (!error && what == EPOLL_CTL_DEL) *it = (interest){0};
   else if (!error) *it = (interest){.file = f, .events = of->events, .data = of->data};
   if (!error && what != EPOLL_CTL_DEL) any_edge = any_edge || of->events & EPOLLET;
-  changes++;
-  wake_pollers();
+  look_again();
   turn_end();
   return error ? (errno = error, -1) : 0;
 }

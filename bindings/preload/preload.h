@@ -227,7 +227,7 @@ void uncovered(const char *kind, const char *format, ...) __attribute__((format(
 void uncovered_at(const void *caller, const char *kind, const char *format, ...) __attribute__((format(printf, 3, 4)));
 
 /* descriptors.c: what is known of each number of the machine */
-enum kind { NONE, MEMORY, PIPE, HOST, STREAM, LISTENER, SOCKET, STANDARD, EVENT, EPOLL };
+enum kind { NONE, MEMORY, PIPE, HOST, STREAM, LISTENER, SOCKET, STANDARD, EVENT, EPOLL, TIMER };
 /* What is on its way in memory, from one end to the other. */
 typedef struct {
   int64_t filled;
@@ -239,7 +239,7 @@ typedef struct {
   int real;       /* the descriptor of the host; of STANDARD 1 or 2 */
   bool nonblock, directory, waits;
   channel *in, *out; /* of an end of a pipe or pair */
-  void *object;      /* of EVENT and EPOLL */
+  void *object;      /* of EVENT, EPOLL and TIMER */
 } opened_file;
 bool is_ours(int fd);
 opened_file *opened_at(int fd);
@@ -271,6 +271,14 @@ short ready_event(const opened_file *, short events);
 ssize_t read_event(const opened_file *, void *to, size_t room);
 ssize_t write_event(const opened_file *, const void *of, size_t length);
 void forget_told(const opened_file *);
+int new_number(enum kind kind, size_t size, void **object, int flags);
+void look_again(void); /* at the turn: what some epoll looks at is another */
+
+/* timers.c */
+short ready_timer(const opened_file *, short events);
+ssize_t read_timer(const opened_file *, void *to, size_t room);
+int64_t until_timers(const struct pollfd *fds, size_t count);
+int64_t recorded_now(clockid_t clock);
 
 /* names.c */
 enum where { IN_RUN, PASSED, OUTSIDE };

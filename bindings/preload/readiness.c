@@ -79,6 +79,7 @@ static int look_at(struct pollfd *fds, struct pollfd *doors, nfds_t count, bool 
     else if (f->kind == NONE) fds[i].revents = POLLNVAL;
     else if (f->kind == PIPE) fds[i].revents = ready_end(f, fds[i].events);
     else if (f->kind == EVENT) fds[i].revents = ready_event(f, fds[i].events);
+    else if (f->kind == TIMER) fds[i].revents = ready_timer(f, fds[i].events);
     else if (f->kind == EPOLL) fds[i].revents = 0;
     else fds[i].revents = fds[i].events & (POLLIN | POLLOUT | POLLRDNORM | POLLWRNORM);
     ready += fds[i].revents != 0;
@@ -133,12 +134,32 @@ static void make_waker(void) {
   if (!run.replays && !slots[me].waker) slots[me].waker = (int)KERNEL(SYS_eventfd2, 0, EFD_CLOEXEC | EFD_NONBLOCK);
 }
 
+/* Whether a timer is among these: then all times are reckoned by recorded clocks. */
+static bool has_timer(const struct pollfd *fds, size_t count) {
+  for (size_t i = 0; i < count; i++)
+    if (opened_at(fds[i].fd)->kind == TIMER) return true;
+  return false;
+}
+static int64_t now_for(bool timed) { return timed ? recorded_now(CLOCK_MONOTONIC) : now_in_recording(); }
+/* At the turn, which it gives up: waits for so long (-1: for ever) until something in memory moves: whether it did. */
+static bool await_memory(int64_t nanos) {
+  struct timespec then = as_time(now_in_recording() + nanos);
+  if (nanos >= 0) return wait_until(&pollers, CLOCK_MONOTONIC, &then);
+  park(&pollers, "end of a pipe, by poll,");
+  turn_end();
+  return true;
+}
+
 int poll_all(struct pollfd *fds, size_t count, int64_t nanos, const unsigned *changes, unsigned seen) {
   struct pollfd doors[MOST_POLLED];
   if (count > MOST_POLLED) return errno = EINVAL, -1;
-  int64_t until = nanos < 0 ? -1 : now_in_recording() + nanos;
-  for (bool over = nanos == 0;;) {
-    bool any_door, woken = true;
+  bool timed = has_timer(fds, count), over = nanos == 0, any_door;
+  int64_t until = nanos < 0 ? -1 : now_for(timed) + nanos;
+  for (;;) {
+    int64_t left = nanos < 0 ? -1 : until - now_for(timed), timer = timed ? until_timers(fds, count) : -1;
+    over = over || (timed && nanos > 0 && left <= 0);
+    if (nanos >= 0 && left < 0) left = 0;
+    if (timer >= 0 && (left < 0 || timer < left)) left = timer;
     turn();
     if (changes && *changes != seen) {
       turn_end();
@@ -146,20 +167,15 @@ int poll_all(struct pollfd *fds, size_t count, int64_t nanos, const unsigned *ch
     }
     int ready = look_at(fds, doors, count, &any_door);
     if (any_door) {
-      int64_t left = nanos < 0 ? -1 : until - now_in_recording();
       make_waker();
-      woken = await_doors_or(&pollers, doors, count, ready || over ? 0 : nanos < 0 || left > 0 ? left : 0);
+      bool woken = await_doors_or(&pollers, doors, count, ready || over ? 0 : left);
       int all = combine(fds, doors, count);
-      if (all || over || !woken) return all;
+      if (all || over || (!woken && !timed)) return all;
     } else if (ready || over) {
       turn_end();
       return ready;
-    } else if (nanos < 0) {
-      park(&pollers, "end of a pipe, by poll,");
-      turn_end();
     } else {
-      struct timespec then = as_time(until);
-      over = !wait_until(&pollers, CLOCK_MONOTONIC, &then);
+      over = !await_memory(left) && !timed;
     }
   }
 }

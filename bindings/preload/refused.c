@@ -13,7 +13,6 @@
 #include <sys/mman.h>
 #include <sys/socket.h>
 #include <sys/time.h>
-#include <sys/timerfd.h>
 #include <sys/timex.h>
 #include <sys/uio.h>
 #include <termios.h>
@@ -33,10 +32,6 @@
 #define REFUSED(name, given, passed) REFUSES(int, -1, ENOSYS, name, given, passed)
 
 /* What makes descriptors that the machine does not have, and what is done with them. */
-REFUSED(timerfd_create, (int clock, int flags), (clock, flags))
-REFUSED(timerfd_gettime, (int fd, struct itimerspec *to), (fd, to))
-REFUSED(timerfd_settime, (int fd, int how, const struct itimerspec *time, struct itimerspec *old),
-        (fd, how, time, old))
 REFUSED(signalfd, (int fd, const sigset_t *set, int flags), (fd, set, flags))
 REFUSED(inotify_init, (void), ())
 REFUSED(inotify_init1, (int flags), (flags))

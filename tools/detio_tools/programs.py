@@ -67,6 +67,7 @@ CASES = (
     Case("polls in parallel", ("@polls",), ("--parallel",), reruns=10),
     Case("events", ("@events",), input="input.txt", reruns=10),
     Case("events in parallel", ("@events",), ("--parallel",), input="input.txt", reruns=10),
+    Case("timers", ("@timers",), reruns=10),
     Case("uncovered", ("@uncovered",), native=False),
     Case("locks", ("@locks",)),
     Case("threads", ("@threads",)),
@@ -901,5 +902,5 @@ def compare_table(trial: Trial) -> None:
 OTHERS: dict[str, Callable[[Trial], None]] = {
     "table": compare_table, "closed": closed_program, "killed": killed, "differing": differing, "statuses":
     statuses, "stuck": stuck, "diverges": diverges, "stops": stops, "computes": computing, "quiet": quiet, "net": net, "passed": passed, "faults": faults, "own-identity": other_user, "strangers": strangers, "seeds": seeds, "children": children,
-    "units": units, "sanitizers": sanitizers, "addresses": addresses, "few": few_addresses, "in-turn": in_turn,
+    "units": units, "sanitizers": sanitizers, "addresses": addresses, "few": few_addresses,  "in-turn": in_turn,
     "numbers": closed_numbers, "hang": hang_of_pigz, "server": server, "web": web_server}

@@ -106,6 +106,29 @@ static void waits(int listener) {
   }
 }
 
+/* More than there is room for: who reads is told of each part. */
+static char much[100000];
+static void *writes_much(void *given) {
+  return write(*(int *)given, much, sizeof much) == sizeof much ? NULL : given;
+}
+static void bulk(void) {
+  for (int way = 0; way < 2; way++) {
+    int p[2];
+    pthread_t t[2];
+    void *failed[2];
+    long all = 0;
+    if (way ? socketpair(AF_UNIX, SOCK_STREAM, 0, p) : pipe(p)) exit(1);
+    struct pollfd one = {p[0], POLLIN, 0};
+    for (int i = 0; i < 2; i++) pthread_create(&t[i], NULL, writes_much, &p[1]);
+    while (all < 2 * (long)sizeof much && poll(&one, 1, -1) == 1) all += read(p[0], bytes, sizeof bytes);
+    for (int i = 0; i < 2; i++) pthread_join(t[i], &failed[i]);
+    SAY(all);
+    SAY(failed[0] || failed[1]);
+    SAY(poll(&one, 1, 0));
+    SAY(close(p[0]) + close(p[1]));
+  }
+}
+
 int main(void) {
   struct sockaddr_in to = {.sin_family = AF_INET, .sin_addr = {htonl(INADDR_LOOPBACK)}};
   setvbuf(stdout, NULL, _IOLBF, 0);
@@ -114,5 +137,6 @@ int main(void) {
   pipes();
   pairs();
   waits(listener);
+  bulk();
   return 0;
 }

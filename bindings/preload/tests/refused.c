@@ -14,7 +14,6 @@
 #include <sys/signalfd.h>
 #include <sys/syscall.h>
 #include <sys/sysinfo.h>
-#include <sys/timerfd.h>
 #include <time.h>
 #include <unistd.h>
 
@@ -48,7 +47,6 @@ static void must(const char *what, int result) {
 int main(void) {
   sigset_t set;
   sigemptyset(&set);
-  REFUSED(timerfd_create(CLOCK_REALTIME, 0));
   REFUSED(signalfd(-1, &set, 0));
   REFUSED(inotify_init());
   REFUSED(inotify_init1(0));

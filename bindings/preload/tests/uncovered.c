@@ -47,9 +47,6 @@ static void scans(const wchar_t *format, ...) {
 
 int main(void) {
   scans(L"%d", &wrong);
-  REFUSED(timerfd_create, ENOSYS);
-  REFUSED(timerfd_gettime, ENOSYS);
-  REFUSED(timerfd_settime, ENOSYS);
   REFUSED(signalfd, ENOSYS);
   REFUSED(inotify_init, ENOSYS);
   REFUSED(inotify_init1, ENOSYS);
