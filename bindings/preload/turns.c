@@ -268,13 +268,32 @@ void turn(void) {
   if (delay() || !run.serial) await_turn();
 }
 
+/* The history is long: the line says which threads make most of it. */
+static void say_growth(void) {
+  int order[SLOTS], count = 0;
+  char line[160] = "";
+  for (int i = 0; i < (int)run.threads; i++)
+    if (slots[i].calls) order[count++] = i;
+  for (int i = 1; i < count; i++) /* the busiest first */
+    for (int k = i; k > 0 && slots[order[k]].calls > slots[order[k - 1]].calls; k--) {
+      int swapped = order[k];
+      order[k] = order[k - 1];
+      order[k - 1] = swapped;
+    }
+  for (int i = 0, length = 0; i < count && i < 3; i++)
+    length += snprintf(line + length, sizeof line - (size_t)length, "%s%lu of thread %d", i ? ", " : "",
+                       slots[order[i]].calls, order[i]);
+  say("the run keeps %zu MB of history in memory, and grows; most calls: %s",
+      heap_used / 1000000, line);
+}
+
 /* Of a serial run nobody is in the program's own code but who has the turn. */
 static void return_to_program(void) {
   if (run.serial && !inside) await_turn();
   else (void)settle();
   if (heap_used > heap_limit) {
     heap_limit = SIZE_MAX;
-    say("the run keeps 1 GB of history in memory, and grows");
+    say_growth();
   }
   unlock_run();
 }

@@ -392,6 +392,30 @@ def few_addresses(trial: Trial) -> None:
         trial.check(ran.status == 0, f"few addresses: {words}: {ran.status} {ran.ours()}")
 
 
+def growing(trial: Trial) -> None:
+    """A run with a long history says so once, and which threads make it."""
+    folder = trial.room / "growing"
+    make_inputs(folder)
+    launcher, program = str(trial.library / "detio-launch"), str(trial.room / "programs/grows")
+    script = f"ulimit -v 1500000; exec {launcher} run --log grows.log --force -- {program} 2000000"
+    ran = trial.launch("/bin/sh", "-c", script, folder=folder)
+    trial.check(ran.status == 0 and ran.ours().count("of history in memory") == 1, f"growing: {ran.status} {ran.ours()}")
+    said = re.search(r"most calls: (\d+) of thread 2, ", ran.ours())
+    trial.check(said is not None and int(said[1]) > 10000, f"growing: it is not said who: {ran.ours()}")
+
+
+def long_log(trial: Trial) -> None:
+    """A log that is longer than the commands for scripts read is rerun."""
+    folder = trial.room / "long"
+    make_inputs(folder)
+    (folder / "data.txt").write_bytes(os.urandom(18_000_000))
+    run = trial.run("long.log", "md5sum", "data.txt", folder=folder)
+    (folder / "data.txt").unlink()
+    again = trial.rerun("long.log", folder=folder)
+    trial.check((folder / "long.log").stat().st_size > 16_777_216, "long: the log is short")
+    trial.check(run.status == 0 and again.alone() == run.alone(), f"long: rerun {again.status}: {again.ours()}")
+
+
 def in_turn(trial: Trial) -> None:
     """Effects on the host come in the order of turns: recordings leave the same file, serial or not."""
     folder = trial.room / "in-turn"
@@ -902,5 +926,5 @@ def compare_table(trial: Trial) -> None:
 OTHERS: dict[str, Callable[[Trial], None]] = {
     "table": compare_table, "closed": closed_program, "killed": killed, "differing": differing, "statuses":
     statuses, "stuck": stuck, "diverges": diverges, "stops": stops, "computes": computing, "quiet": quiet, "net": net, "passed": passed, "faults": faults, "own-identity": other_user, "strangers": strangers, "seeds": seeds, "children": children,
-    "units": units, "sanitizers": sanitizers, "addresses": addresses, "few": few_addresses,  "in-turn": in_turn,
+    "units": units, "sanitizers": sanitizers, "addresses": addresses, "few": few_addresses, "growing": growing, "long": long_log, "in-turn": in_turn,
     "numbers": closed_numbers, "hang": hang_of_pigz, "server": server, "web": web_server}
