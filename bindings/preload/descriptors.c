@@ -225,6 +225,7 @@ static ssize_t reads(int fd, void *bytes, size_t count, off_t at) {
   size_t done = 0;
   if (at < 0 && count) wait_for_door(fd, POLLIN);
   do {
+    if (at < 0 && count && !done && !f->nonblock) await_bytes(f);
     size_t most = at >= 0 && f->kind == HOST ? PIECE : MOST, piece = count - done < most ? count - done : most, n = 0;
     int64_t got;
     if (at >= 0 && f->kind == HOST) {

@@ -69,7 +69,7 @@ static bool may_wait(const opened_file *f) {
     errno = EAGAIN;
     return false;
   }
-  park(f->object, "eventfd");
+  park(f->object, "what an eventfd counts");
   return true;
 }
 ssize_t read_event(const opened_file *f, void *to, size_t room) {

@@ -255,6 +255,7 @@ void begin_descriptors(void);
 void wait_for_door(int fd, short events);
 
 /* readiness.c */
+void await_bytes(const opened_file *); /* of a pipe or pair, until it has some, or nobody writes it */
 void note_moved(const opened_file *, int64_t taken, int64_t put);
 void note_closed(const opened_file *, bool reads, bool writes); /* this end does not any more */
 void join_ends(opened_file *, opened_file *, bool both_ways);

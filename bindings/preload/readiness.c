@@ -28,13 +28,24 @@ void join_ends(opened_file *one, opened_file *other, bool both_ways) {
 void wake_pollers(void) {
   for (int w; (w = first_waiter(&pollers)) >= 0;) unpark(w);
 }
+/* Who waits at a channel, or at any by poll, looks again. */
+static void wake_at(const channel *c) {
+  for (int w; c && (w = first_waiter(c)) >= 0;) unpark(w);
+  wake_pollers();
+}
+void await_bytes(const opened_file *f) {
+  if (!f->in) return;
+  turn();
+  while (f->in->filled <= 0 && !f->in->writer_gone && !f->in->reader_gone) park(f->in, "what comes through a pipe");
+  turn_end();
+}
 void note_moved(const opened_file *f, int64_t taken, int64_t put) {
   if (!f->in && !f->out) return;
   turn();
   if (f->in) f->in->filled -= taken;
   if (f->out) f->out->filled += put;
   forget_told(NULL);
-  wake_pollers();
+  wake_at(put ? f->out : NULL);
   turn_end();
 }
 void note_closed(const opened_file *f, bool reads, bool writes) {
@@ -43,7 +54,8 @@ void note_closed(const opened_file *f, bool reads, bool writes) {
   if (f->in && reads) f->in->reader_gone = true;
   if (f->out && writes) f->out->writer_gone = true;
   forget_told(NULL);
-  wake_pollers();
+  wake_at(f->in);
+  wake_at(f->out);
   turn_end();
 }
 
@@ -145,7 +157,7 @@ static int64_t now_for(bool timed) { return timed ? recorded_now(CLOCK_MONOTONIC
 static bool await_memory(int64_t nanos) {
   struct timespec then = as_time(now_in_recording() + nanos);
   if (nanos >= 0) return wait_until(&pollers, CLOCK_MONOTONIC, &then);
-  park(&pollers, "end of a pipe, by poll,");
+  park(&pollers, "what poll looks at");
   turn_end();
   return true;
 }

@@ -106,7 +106,7 @@ ssize_t read_timer(const opened_file *f, void *to, size_t room) {
       (void)wait_until(t, t->clock, &then);
       continue;
     }
-    park(t, "timerfd");
+    park(t, "what a timerfd says");
     turn_end();
   }
   if (due) t->next = t->every ? t->next + (int64_t)due * t->every : 0;

@@ -55,11 +55,27 @@ static bool others_run(int i, int j) {
   return false;
 }
 
+_Noreturn static void end_lacking(int i) {
+  const slot *s = &slots[i];
+  ends(LOG_ENDS, "the log ends here: thread %d, at its call %lu, has no outcome %lu", i, s->calls, s->outcomes + 1);
+}
 /* Where the thread that has the turn lacks an outcome, and nobody runs, a rerun ends. */
 static void end_with_log(int h, int also) {
-  const slot *s = &slots[h];
-  if (h >= 0 && s->lacks && !others_run(h, also))
-    ends(LOG_ENDS, "the log ends here: thread %d, at its call %lu, has no outcome %lu", h, s->calls, s->outcomes + 1);
+  if (h >= 0 && slots[h].lacks && !others_run(h, also)) end_lacking(h);
+}
+
+static bool call_goes_on(size_t i);
+/* Nobody runs but thread i, which is about to sleep: a rerun ends too where who has the turn waits with its call for
+ * the record of one that was granted before, and the log does not have that. */
+static void end_after_lack(int i) {
+  int h = holder(), lacking = -1;
+  for (int k = 0; k < (int)run.threads; k++) {
+    const slot *s = &slots[k];
+    if (s->state != LIVE) continue;
+    if (k != i && (!s->sleeps || s->word)) return;
+    if (s->lacks) lacking = k;
+  }
+  if (lacking >= 0 && h >= 0 && slots[h].in_call && !call_goes_on((size_t)h)) end_lacking(lacking);
 }
 
 /* The slot's word is 0, and the lock is free: sleeps until another thread rouses it, or until this time of
@@ -101,7 +117,10 @@ static bool nap_until(int i, const struct timespec *until) {
   slot *s = &slots[i];
   __atomic_store_n(&s->word, 0, __ATOMIC_RELAXED);
   s->sleeps = true;
-  if (run.replays) end_with_log(holder(), i);
+  if (run.replays) {
+    end_with_log(holder(), i);
+    end_after_lack(i);
+  }
   inside++;
   unlock_run();
   bool roused = sleep_at(s, until);
@@ -131,7 +150,9 @@ static void say_wait(int i) {
   char what[200];
   bool known = s->waits_for && s->on;
   int owner = known && !strcmp(s->waits_for, "mutex") ? mutex_owner(s->on) : -1;
-  if (known && !strcmp(s->waits_for, "thread"))
+  if (known && !strncmp(s->waits_for, "what ", 5))
+    snprintf(what, sizeof what, "%s", s->waits_for);
+  else if (known && !strcmp(s->waits_for, "thread"))
     snprintf(what, sizeof what, "the end of thread %d", (int)((const slot *)s->on - slots));
   else if (owner >= 0)
     snprintf(what, sizeof what, "the mutex of thread %d, %s", owner, place_of(s->on, &at));

@@ -302,6 +302,23 @@ def killed(trial: Trial) -> None:
         trial.check(again.out.startswith(printed), f"killed {number}: the rerun lacks what was printed")
 
 
+def cut(trial: Trial) -> None:
+    """A log that ends after any of its records is rerun to there, and no rerun waits for ever."""
+    folder = trial.room / "cut"
+    make_inputs(folder)
+    run = trial.run("whole.log", str(trial.room / "programs/ticks"), folder=folder)
+    log = (folder / "whole.log").read_bytes()
+    ends = [16]
+    while log[ends[-1]:ends[-1] + 1] == b"R":
+        ends.append(ends[-1] + 27 + int.from_bytes(log[ends[-1] + 25:ends[-1] + 27], "big"))
+    for end in ends[-100:]:
+        (folder / "cut.log").write_bytes(log[:end])
+        again = trial.rerun("cut.log", folder=folder)
+        known = again.status in (0, LOG_ENDS) or again.status == DIFFERS and not again.out
+        trial.check(known and run.out.startswith(again.out),
+                    f"cut: at {end} of {len(log)}: status {again.status}: {again.ours()}")
+
+
 def differing(trial: Trial) -> None:
     """Another environment, directory, argument or binary is told; and a log is not written over."""
     folder = trial.room / "differing"
@@ -491,6 +508,7 @@ def stuck_in_all_ways(trial: Trial) -> None:
         lines = [it for it in ran.err.decode().splitlines() if f"waits for the {word} at stuck" in it]
         where = callers_in(Ran(0, b"", lines[0].encode()), program) if lines else []
         trial.check(where == [f"waits_for_{thing}", thing], f"stuck: {thing}: {where}: {ran.ours()}")
+    trial.check("waits for what comes through a pipe" in ran.ours(), f"stuck: pipe: {ran.ours()}")
 
 
 def stuck_for_ever(trial: Trial) -> None:
@@ -924,7 +942,7 @@ def compare_table(trial: Trial) -> None:
 
 
 OTHERS: dict[str, Callable[[Trial], None]] = {
-    "table": compare_table, "closed": closed_program, "killed": killed, "differing": differing, "statuses":
+    "table": compare_table, "closed": closed_program, "killed": killed, "cut": cut, "differing": differing, "statuses":
     statuses, "stuck": stuck, "diverges": diverges, "stops": stops, "computes": computing, "quiet": quiet, "net": net, "passed": passed, "faults": faults, "own-identity": other_user, "strangers": strangers, "seeds": seeds, "children": children,
     "units": units, "sanitizers": sanitizers, "addresses": addresses, "few": few_addresses, "growing": growing, "long": long_log, "in-turn": in_turn,
     "numbers": closed_numbers, "hang": hang_of_pigz, "server": server, "web": web_server}

@@ -27,6 +27,11 @@ static void *waits_for_semaphore(void *given) {
   sem_wait(&semaphore);
   return given;
 }
+static int empty[2];
+static void *waits_for_bytes(void *given) {
+  char byte;
+  return read(empty[0], &byte, 1) < 0 ? NULL : given;
+}
 static void *waits_for_barrier(void *given) {
   pthread_barrier_wait(&barrier);
   return given;
@@ -38,13 +43,15 @@ static void *waits_for_rwlock(void *given) {
 }
 
 int main(int count, char **words) {
-  void *(*const all[])(void *) = {waits_for_condition, waits_for_semaphore, waits_for_barrier, waits_for_rwlock};
-  pthread_t t[4];
+  void *(*const all[])(void *) = {waits_for_condition, waits_for_semaphore, waits_for_barrier, waits_for_rwlock,
+                                waits_for_bytes};
+  pthread_t t[5];
   (void)words;
-  int threads = count > 1 ? 4 : 2;
+  int threads = count > 1 ? 5 : 2;
   printf("%d threads\n", threads);
   fflush(stdout);
   sem_init(&semaphore, 0, 0);
+  if (pipe(empty)) return 1;
   pthread_barrier_init(&barrier, NULL, 2);
   for (int i = 0; i < threads; i++) pthread_create(&t[i], NULL, count > 1 ? all[i] : locks, i ? &one : NULL);
   for (int i = 0; i < threads; i++) pthread_join(t[i], NULL);
