@@ -1,0 +1,8 @@
+use Rattle.std.proofs.Common.{◌≡◌, ◌++◌, drop}
+use Rattle.descriptor_names.specs.Renaming.{renamed, renamed_threads}
+use Rattle.descriptor_names.proofs.renaming.renamed.Given as goal
+
+abbrev pub invariant-loop-transcript : goal.invariant-loop-transcript
+invariant-loop-transcript l =
+    l.threads.items ++ renamed_threads l.names (drop l.transcript-index l.transcripts)
+    ≡ renamed l.transcripts
