@@ -1,17 +1,19 @@
 -- Believed: a contract of a command stands on it.
 -- What `detio faults` prints for the log and the scripts that it reads.
-use Rattle.std.specs.Prelude.{◌≡◌, ◌⊎◌, ℕ, List}
+use Rattle.std.specs.Prelude.{◌≡◌, ◌⊎◌, ℕ, List, length}
 use Rattle.std.specs.Prelude.{Option, Some, None}
 use Rattle.std.specs.List.{AllZip}
 use Rattle.call_machine.specs.declared.plain.Plain.{Plain}
 use Rattle.explorer.specs.Observations.{observed}
-use Rattle.explorer.specs.Runs.{IsFault, IsRun, Sees}
+use Rattle.explorer.specs.Runs.{IsFault, IsRun}
 use Rattle.explorer.specs.Subject.{Subject}
 use Rattle.explorer.specs.declared.fault.RunFault.{RunFault}
 use Rattle.explorer.specs.declared.observation.Observation.{Observation}
 use Rattle.fault_injection.specs.Cases.{fault_cases}
 use Rattle.fault_injection.specs.Filled.{IsFilledRun}
+use Rattle.fault_injection.specs.Places.{places_in}
 use Rattle.fault_injection.specs.Replaced.{subject_in}
+use Rattle.fault_injection.specs.declared.cases.Choice.{Choice}
 use Rattle.fault_injection.specs.declared.cases.FaultCase.{FaultCase}
 use Rattle.fault_injection.specs.declared.filling.Filling.{Filling}
 use Rattle.command_texts.specs.declared.printed.Printed.{Printed}
@@ -48,21 +50,27 @@ IsCaseFinding filling subject before case finding =
 
 -- ## The command
 
--- this is printed where the runs of all cases were made
+-- the cases of a subject with this run
+abbrev pub cases_of : Choice → Subject → Plain → List FaultCase
+cases_of choice subject run =
+    fault_cases choice subject.outcomes (places_in (length subject.outcomes) run.history.rows)
+
+-- this is printed where the runs of these cases were made
 pub record AreTried
-    (options : FaultOptions) (subject : Subject) (before : Observation) (printed : Printed)
+    (options : FaultOptions) (subject : Subject) (before : Observation)
+    (cases : List FaultCase) (printed : Printed)
     : Type 0 where
   pub as_is : Finding
   pub found_as_is : IsFoundAsIs subject.texts before as_is
   pub findings : List Finding
-  pub found : AllZip (IsCaseFinding options.filling subject before)
-      (fault_cases options.choice subject.outcomes) findings
+  pub found : AllZip (IsCaseFinding options.filling subject before) cases findings
   pub says : printed ≡ cases_printed options.shown as_is findings
 
 -- what is printed: of the cases, or why there was no run by the log as it is
 abbrev pub SubjectInjects : FaultOptions → Subject → Printed → Type 0
 SubjectInjects options subject printed =
-    ((before : Observation) × Sees subject before × AreTried options subject before printed)
+    ((run : Plain) × IsRun subject run
+    × AreTried options subject (observed run) (cases_of options.choice subject run) printed)
     ⊎ ((why : RunFault) × IsFault subject why × FaultPrints why printed)
 
 -- what is printed for what is to be tried

@@ -2,10 +2,11 @@ ghost use Rattle.std.specs.Prelude.{◌≡◌, ◌+◌, ◌++◌, ◌<◌, ◌�
 ghost use Rattle.std.specs.Prelude.{slice_index_or, take};
 ghost use Rattle.std.specs.List.{AllZip};
 ghost use Rattle.command_texts.specs.Printing.{Prints};
+ghost use Rattle.explorer.specs.Observations.{observed};
 ghost use Rattle.explorer.specs.Runs.{IsFault};
 ghost use Rattle.explorer.specs.Subject.{subject};
 ghost use Rattle.explore_commands.specs.Injections.{AreTried, InjectionsPrint, IsCaseFinding};
-ghost use Rattle.explore_commands.specs.Injections.{SeesCase};
+ghost use Rattle.explore_commands.specs.Injections.{SeesCase, cases_of};
 ghost use Rattle.explore_commands.specs.Injections.{RunsCase, SubjectInjects};
 ghost use Rattle.explore_commands.specs.Pushed.{ArePushed};
 ghost use Rattle.fault_injection.specs.Replaced.{subject_in};
@@ -16,7 +17,7 @@ use call_machine::Plain;
 use command_texts::{Printed, Source, TextReader, no_memory, print};
 use explore_texts::{Finding, Shown, cases_printed, cut_of, found, found_as_is, push_case};
 use explorer::{Observation, ReportsProgress, RunFault, Trial, Workers};
-use fault_injection::{Choice, FaultCase, Filling, fault_cases, run_fault, run_filled};
+use fault_injection::{Choice, FaultCase, Filling, fault_cases, places_in, run_fault, run_filled};
 use std::alloc::{AllocError, Global};
 use std::io;
 use std::io::Write;
@@ -38,12 +39,13 @@ pub struct FaultOptions<'a> {
 }
 
 /// `detio faults`: runs the scripts on the plain schedule by the outcomes of a log, at whatever
-/// turns: as they are, and once for each case, with one outcome replaced. It prints how the run by
-/// the outcomes as they are ended, a line for each case, and a line of sums; or one line for the
-/// first fault. It returns the exit status, 1 where a [`Judgement`](explore_texts::Judgement) of a
-/// run is a fault: a reply is not as the texts expect, or, unless that is allowed, the run stopped
-/// or its calls were blocked for good. Where there is no memory, a file cannot be read or
-/// the output cannot be written, that is the fault. `progress` is called after each batch of
+/// turns: as they are, and once for each case, with one outcome replaced. Only the last outcome of
+/// each call of the run as it is has cases ([`places_in`](fault_injection::places_in)). It prints
+/// how that run ended, a line for each case, and a line of sums; or one line for the first fault.
+/// It returns the exit status, 1 where a [`Judgement`](explore_texts::Judgement) of a run is a
+/// fault: a reply is not as the texts expect, or, unless that is allowed, the run stopped or its
+/// calls were blocked for good. Where there is no memory, a file cannot be read or the output
+/// cannot be written, that is the fault. `progress` is called after each batch of
 /// [`Workers::at_a_time`] cases, and once before anything is printed. An error is one of the writer
 /// `errors`.
 pub fn faults_over<T: Threads + Sync, R: TextReader + Drop, P: ReportsProgress, W: Write, E: Write>(
@@ -109,32 +111,64 @@ fn trial_tried<T: Threads + Sync, P: ReportsProgress>(
 ) -> Result<Printed, AllocError>
     ensures { IfOk result (SubjectInjects options.entry (subject trial.entry)) }
 {
-    match trial.observe(alloc) {
-        Ok(before) => seen_tried(workers, alloc, options, trial, &before, progress),
+    match trial.run(alloc) {
+        Ok(run) => run_tried(workers, alloc, options, trial, run, progress),
         Err(fault) => fault_printed(alloc, fault),
     }
 }
 
-// What is to be printed where this was seen in the run by the outcomes as they are.
+// What is to be printed where this is the run by the outcomes as they are.
+fn run_tried<T: Threads + Sync, P: ReportsProgress>(
+    workers: &Workers<'_, T>,
+    alloc: Global,
+    options: FaultOptions<'_>,
+    trial: Trial<'_>,
+    run: Plain,
+    progress: &mut P,
+) -> Result<Printed, AllocError>
+    ensures { IfOk result (AreTried options.entry (subject trial.entry) (observed run)
+        (cases_of options.choice.entry (subject trial.entry) run)) }
+{
+    let before = Observation::new(alloc, &run)?;
+    let cases = cases_of(alloc, options.choice, trial, &run)?;
+    drop(run);
+    seen_tried(workers, alloc, options, trial, &before, &cases, progress)
+}
+
+// The cases of the outcomes that the calls of this run took.
+fn cases_of(
+    alloc: Global,
+    choice: Choice<'_>,
+    trial: Trial<'_>,
+    run: &Plain,
+) -> Result<Vec<FaultCase>, AllocError>
+    ensures { IfOk result (λ cases.
+        cases.items ≡ cases_of choice.entry (subject trial.entry) run.now) }
+{
+    let places = places_in(alloc, trial.outcomes.len(), run.history.rows())?;
+    fault_cases(alloc, trial.outcomes, &places, choice)
+}
+
+// What is to be printed of these cases, where this was seen in the run by the outcomes as they are.
 fn seen_tried<T: Threads + Sync, P: ReportsProgress>(
     workers: &Workers<'_, T>,
     alloc: Global,
     options: FaultOptions<'_>,
     trial: Trial<'_>,
     before: &Observation,
+    cases: &[FaultCase],
     progress: &mut P,
 ) -> Result<Printed, AllocError>
-    ensures { IfOk result (AreTried options.entry (subject trial.entry) before.now) }
+    ensures { IfOk result (AreTried options.entry (subject trial.entry) before.now cases.now) }
 {
     let as_is = found_as_is(alloc, trial.texts, before)?;
-    let cases = fault_cases(alloc, trial.outcomes, options.choice)?;
     let findings = cases_found(
         workers,
         alloc,
         options.filling,
         trial,
         before,
-        &cases,
+        cases,
         progress,
     )?;
     cases_printed(alloc, options.shown, &as_is, &findings)

@@ -1,9 +1,9 @@
 -- In each case the outcomes are others than those that came.
-use Rattle.std.proofs.Common.{◌≡◌, ◌≢◌, ◌<◌, ◌==◌, ◌&&◌, ◌+◌, ◌-◌, ◌/◌, ◌∙◌, ℕ, List, []}
+use Rattle.std.proofs.Common.{◌≡◌, ◌≢◌, ◌<◌, ◌==◌, ◌&&◌, ◌+◌, ◌-◌, ◌/◌, ◌∙◌, ℕ, zero, suc, List, []}
 use Rattle.std.proofs.Common.{◌∷◌}
-use Rattle.std.proofs.Common.{All, Bool, true, false, not, ap, arith, drop, eq-eqb, filter, get_or}
+use Rattle.std.proofs.Common.{All, Bool, true, false, not, ap, arith, eq-eqb, filter, get_or}
 use Rattle.std.proofs.Common.{map, nat_lt, refl, rules, sym}
-use Rattle.std.specs.Prelude.{flat_map, if◌then◌else◌}
+use Rattle.std.specs.Prelude.{Option, Some, None, if◌then◌else◌, option_map, slice_get, slice_index_or}
 use Rattle.std.specs.List.{enumerate_from}
 use Rattle.std.proofs.lemmas.Bool.{false≢true}
 use Rattle.std.proofs.lemmas.List.Elements.{All-append, All-map, All-nil, filter_passes}
@@ -15,15 +15,17 @@ use Rattle.posix_terms.specs.declared.outcome.OutKind.{OutKind}
 use Rattle.posix_terms.specs.declared.outcome.OutKind.TheVariants as kind
 use Rattle.posix_terms.specs.declared.outcome.Outcome.{Outcome}
 use Rattle.posix_terms.specs.declared.outcome.Outcome.TheVariants as outcome
-use Rattle.fault_injection.specs.Cases.{cases_at, cases_in}
+use Rattle.posix_terms.specs.declared.reply.ObjectKind.{ObjectKind}
+use Rattle.fault_injection.specs.Cases.{cases_at, cases_of, fault_cases}
 use Rattle.fault_injection.specs.Laws.{CasesDiffer}
-use Rattle.fault_injection.specs.Replaced.{given_in, injected_in, of_thread_in}
+use Rattle.fault_injection.specs.Replaced.{given_in, injected_in, of_thread_in, outcomes_in}
 use Rattle.fault_injection.specs.Tried.{errors_for, failures, is_failure, short_counts}
 use Rattle.fault_injection.specs.Tried.{short_successes, tried}
 use Rattle.fault_injection.specs.declared.cases.Choice.{Choice}
 use Rattle.fault_injection.specs.declared.cases.FaultCase.{FaultCase}
 use Rattle.fault_injection.specs.declared.injected.Injected.{Injected}
 use Rattle.fault_injection.specs.declared.injected.Injected.TheVariants as injected
+use Rattle.fault_injection.specs.declared.places.Place.{Place}
 
 -- what holds of each element goes over to what follows from it
 weaker : {X : Type 0} (P Q : X → Type 0) (xs : List X)
@@ -98,22 +100,17 @@ if_chosen : (chosen : Bool) (recorded : Outcome) (short : List Injected)
 if_chosen true recorded short all = all
 if_chosen false recorded short all = All-nil (Differs recorded)
 
-tried_differ : (choice : Choice) (given : Given)
-    → All (Differs given.outcome) (tried choice given)
-tried_differ choice given =
+tried_differ : (choice : Choice) (object : Option ObjectKind) (given : Given)
+    → All (Differs given.outcome) (tried choice object given)
+tried_differ choice object given =
     let short = short_successes given.kind given.outcome in
-    All-append (Differs given.outcome) (failures (errors_for choice given.kind) given.outcome)
+    let errors = errors_for choice given.kind object in
+    All-append (Differs given.outcome) (failures errors given.outcome)
     (if choice.short then short else [])
-    (failures_differ (errors_for choice given.kind) given.outcome)
+    (failures_differ errors given.outcome)
     (if_chosen choice.short given.outcome short (short_differ given.kind given.outcome))
 
--- ## A thread's outcomes
-
--- the case is of this thread, whose outcomes from this number on are others in it
-InThread : ℕ → ℕ → List Given → FaultCase → Type 0
-InThread thread from given case =
-    (case.thread ≡ thread)
-    × (map (given_in case thread) (enumerate_from from given) ≢ given)
+-- ## The outcome of a place
 
 -- in place of the outcome of the case comes what is injected
 in_place : (thread number : ℕ) (one : Injected) (given : Given)
@@ -128,61 +125,102 @@ in_place thread number one given =
     ∙ ap (λ (b : Bool).
     (if b then record given { outcome = injected_in one given.outcome } else given).outcome) n
 
-first_of : Given → List Given → Outcome
-first_of given list = (get_or list 0 given).outcome
+-- what became of the outcome with this number, if there is one
+get_in : {X : Type 0} (f : ℕ × X → X) (from : ℕ) (xs : List X) (i : ℕ)
+    → slice_get (map f (enumerate_from from xs)) i
+    ≡ option_map (λ x. f (from + i, x)) (slice_get xs i)
+get_in f from [] i = refl
+get_in f from (x ∷ xs) zero =
+    let e : from ≡ from + 0 = omega arith in
+    ap (λ (n : ℕ). Some (f (n, x))) e
+get_in f from (x ∷ xs) (suc i) =
+    let e : from + 1 + i ≡ from + suc i = omega arith in
+    get_in f (from + 1) xs i
+    ∙ ap (λ (n : ℕ). option_map (λ y. f (n, y)) (slice_get xs i)) e
 
-outcome_differs : (choice : Choice) (thread from : ℕ) (first : Given) (rest : List Given)
-    → All (InThread thread from (first ∷ rest)) (cases_at choice thread (from, first))
-unfolding InThread Differs first_of
-outcome_differs choice thread from first rest =
-    let case_of : Injected → FaultCase =
-    λ one. record { thread = thread; number = from; injected = one } in
-    All-map (InThread thread from (first ∷ rest)) case_of (tried choice first)
-    (weaker (Differs first.outcome) (λ one. InThread thread from (first ∷ rest) (case_of one))
-    (tried choice first)
-    (λ one differs. (
-      refl,
-      λ same. differs (sym (in_place thread from one first) ∙ ap (first_of first) same),
-    ))
-    (tried_differ choice first))
+-- what became of the outcomes of a thread; where there are none, there are none then
+thread_in : (case : FaultCase) (from : ℕ) (outcomes : List (List Given)) (i : ℕ)
+    → slice_index_or (map (of_thread_in case) (enumerate_from from outcomes)) i []
+    ≡ of_thread_in case (from + i, slice_index_or outcomes i [])
+thread_in case from [] i = refl
+thread_in case from (first ∷ rest) zero =
+    let e : from ≡ from + 0 = omega arith in
+    ap (λ (n : ℕ). of_thread_in case (n, first)) e
+thread_in case from (first ∷ rest) (suc i) =
+    let e : from + 1 + i ≡ from + suc i = omega arith in
+    thread_in case (from + 1) rest i
+    ∙ ap (λ (n : ℕ). of_thread_in case (n, slice_index_or rest i [])) e
 
-thread_differs : (choice : Choice) (thread from : ℕ) (given : List Given)
-    → All (InThread thread from given)
-    (flat_map (cases_at choice thread) (enumerate_from from given))
-unfolding InThread
-thread_differs choice thread from [] = All-nil (InThread thread from [])
-thread_differs choice thread from (first ∷ rest) =
-    All-append (InThread thread from (first ∷ rest)) (cases_at choice thread (from, first))
-    (flat_map (cases_at choice thread) (enumerate_from (from + 1) rest))
-    (outcome_differs choice thread from first rest)
-    (weaker (InThread thread (from + 1) rest) (InThread thread from (first ∷ rest))
-    (flat_map (cases_at choice thread) (enumerate_from (from + 1) rest))
-    (λ case inside. (inside.0, λ same. inside.1 (ap (drop 1) same)))
-    (thread_differs choice thread (from + 1) rest))
+-- the outcome of a place
+at_place : Place → List (List Given) → Option Given
+at_place place outcomes = slice_get (slice_index_or outcomes place.thread []) place.number
 
--- ## All outcomes
+outcome_or : Option Given → Outcome → Outcome
+outcome_or None d = d
+outcome_or (Some given) d = given.outcome
 
--- the outcomes of the threads from this on are others in the case
-InThreads : ℕ → List (List Given) → FaultCase → Type 0
-InThreads from outcomes case =
-    map (of_thread_in case) (enumerate_from from outcomes) ≢ outcomes
+case_at : Place → Injected → FaultCase
+case_at place one =
+    record { thread = place.thread; number = place.number; injected = one }
 
-threads_differ : (choice : Choice) (from : ℕ) (outcomes : List (List Given))
-    → All (InThreads from outcomes) (flat_map (cases_in choice) (enumerate_from from outcomes))
-unfolding InThreads InThread
-threads_differ choice from [] = All-nil (InThreads from [])
-threads_differ choice from (first ∷ rest) =
-    All-append (InThreads from (first ∷ rest)) (cases_in choice (from, first))
-    (flat_map (cases_in choice) (enumerate_from (from + 1) rest))
-    (weaker (InThread from 0 first) (InThreads from (first ∷ rest))
-    (cases_in choice (from, first))
-    (λ case inside same. inside.1 (ap (λ lists. get_or lists 0 first) same))
-    (thread_differs choice from 0 first))
-    (weaker (InThreads (from + 1) rest) (InThreads from (first ∷ rest))
-    (flat_map (cases_in choice) (enumerate_from (from + 1) rest))
-    (λ case inside same. inside (ap (drop 1) same))
-    (threads_differ choice (from + 1) rest))
+-- it is replaced in the case
+place_in : (place : Place) (one : Injected) (outcomes : List (List Given)) (given : Given)
+    → at_place place outcomes ≡ Some given
+    → at_place place (outcomes_in (case_at place one) outcomes)
+    ≡ Some (given_in (case_at place one) place.thread (place.number, given))
+unfolding at_place case_at
+place_in place one outcomes given is =
+    let case = case_at place one in
+    let of_thread = slice_index_or outcomes place.thread [] in
+    let t : 0 + place.thread ≡ place.thread = omega arith in
+    let n : 0 + place.number ≡ place.number = omega arith in
+    ap (λ (l : List Given). slice_get l place.number) (thread_in case 0 outcomes place.thread)
+    ∙ ap (λ (k : ℕ). slice_get (of_thread_in case (k, of_thread)) place.number) t
+    ∙ get_in (given_in case place.thread) 0 of_thread place.number
+    ∙ ap (λ (k : ℕ).
+    option_map (λ (g : Given). given_in case place.thread (k, g))
+    (slice_get of_thread place.number)) n
+    ∙ ap (option_map (λ (g : Given). given_in case place.thread (place.number, g))) is
+
+-- so all outcomes together are others, where this one is
+place_differs : (place : Place) (one : Injected) (outcomes : List (List Given)) (given : Given)
+    → at_place place outcomes ≡ Some given → Differs given.outcome one
+    → outcomes_in (case_at place one) outcomes ≢ outcomes
+unfolding Differs outcome_or case_at
+place_differs place one outcomes given is differs same =
+    differs
+    (sym (in_place place.thread place.number one given)
+    ∙ ap (λ (o : Option Given). outcome_or o given.outcome)
+    (sym (place_in place one outcomes given is) ∙ ap (at_place place) same ∙ is))
+
+-- ## All places
+
+-- the outcomes are others in the case
+InCase : List (List Given) → FaultCase → Type 0
+InCase outcomes case = outcomes_in case outcomes ≢ outcomes
+
+place_cases : (choice : Choice) (outcomes : List (List Given)) (place : Place)
+    (there : Option Given) → at_place place outcomes ≡ there
+    → All (InCase outcomes) (cases_at choice place there)
+unfolding InCase case_at
+place_cases choice outcomes place None is = All-nil (InCase outcomes)
+place_cases choice outcomes place (Some given) is =
+    All-map (InCase outcomes) (case_at place) (tried choice place.object given)
+    (weaker (Differs given.outcome) (λ one. InCase outcomes (case_at place one))
+    (tried choice place.object given)
+    (λ one differs. place_differs place one outcomes given is differs)
+    (tried_differ choice place.object given))
+
+places_cases : (choice : Choice) (outcomes : List (List Given)) (places : List Place)
+    → All (InCase outcomes) (fault_cases choice outcomes places)
+unfolding at_place
+places_cases choice outcomes [] = All-nil (InCase outcomes)
+places_cases choice outcomes (place ∷ places) =
+    All-append (InCase outcomes) (cases_of choice outcomes place)
+    (fault_cases choice outcomes places)
+    (place_cases choice outcomes place (at_place place outcomes) refl)
+    (places_cases choice outcomes places)
 
 pub cases_differ : CasesDiffer
-unfolding InThreads
-cases_differ choice outcomes = threads_differ choice 0 outcomes
+unfolding InCase
+cases_differ choice outcomes places = places_cases choice outcomes places

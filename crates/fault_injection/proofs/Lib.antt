@@ -1,3 +1,5 @@
 pub mod Asking
 pub mod Differing
 pub mod FilledRuns
+pub mod Following
+pub mod Walking

@@ -1,4 +1,7 @@
 pub mod Tried
+pub mod Places
+pub mod Objects
+pub mod Walking
 pub mod Cases
 pub mod Replaced
 pub mod Filling

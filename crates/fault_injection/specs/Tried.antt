@@ -1,7 +1,8 @@
 -- Believed: a contract of a command stands on it.
 -- What is tried in place of an outcome.
 use Rattle.std.specs.Prelude.{ℕ, ◌-◌, ◌/◌, ◌==◌, Bool, false, if◌then◌else◌, nat_lt, not}
-use Rattle.std.specs.Prelude.{List, [], ◌∷◌, ◌++◌, filter, map, option_copied, unwrap_or}
+use Rattle.std.specs.Prelude.{List, [], ◌∷◌, ◌++◌, filter, map}
+use Rattle.std.specs.Prelude.{Option, Some, option_copied, unwrap_or}
 use Rattle.std.specs.List.{dedup}
 use Rattle.posix_terms.specs.Errors.{code_of}
 use Rattle.posix_terms.specs.declared.errno.Errno.{Errno}
@@ -11,32 +12,45 @@ use Rattle.posix_terms.specs.declared.outcome.OutKind.{OutKind}
 use Rattle.posix_terms.specs.declared.outcome.OutKind.TheVariants as kind
 use Rattle.posix_terms.specs.declared.outcome.Outcome.{Outcome}
 use Rattle.posix_terms.specs.declared.outcome.Outcome.TheVariants as outcome
+use Rattle.posix_terms.specs.declared.reply.ObjectKind.{ObjectKind}
+use Rattle.posix_terms.specs.declared.reply.ObjectKind.TheVariants as object
 use Rattle.fault_injection.specs.declared.cases.Choice.{Choice}
 use Rattle.fault_injection.specs.declared.injected.Injected.{Injected}
 use Rattle.fault_injection.specs.declared.injected.Injected.TheVariants as injected
 
 -- ## Failures
 
--- the errors that a request of this kind can meet at a host
-abbrev pub errors_of : OutKind → List Errno
-errors_of kind.Open =
-    errno.ENOENT ∷ errno.EACCES ∷ errno.EINTR ∷ errno.EINVAL ∷ errno.EIO ∷ []
-errors_of kind.Read =
+-- the errors that a read can meet at a host: of a stream, or of a host file
+abbrev pub read_errors : Option ObjectKind → List Errno
+read_errors (Some object.Stream) =
     errno.EAGAIN ∷ errno.EINTR ∷ errno.ECONNRESET ∷ errno.ETIMEDOUT ∷ errno.EIO ∷ []
-errors_of kind.Write =
+read_errors other = errno.EINTR ∷ errno.EIO ∷ []
+
+-- those of a write: to a stream, or to a host file, which may be a pipe
+abbrev pub write_errors : Option ObjectKind → List Errno
+write_errors (Some object.Stream) =
     errno.EAGAIN ∷ errno.EINTR ∷ errno.EPIPE ∷ errno.ECONNRESET ∷ errno.EIO ∷ []
-errors_of kind.Seek = errno.EINVAL ∷ errno.EIO ∷ []
-errors_of kind.Listen = errno.EADDRINUSE ∷ errno.EACCES ∷ errno.EINVAL ∷ errno.EIO ∷ []
-errors_of kind.Connect =
+write_errors other = errno.EINTR ∷ errno.EPIPE ∷ errno.EIO ∷ []
+
+-- the errors that a request of this kind can meet at a host, where a read or a write goes by this
+abbrev pub errors_of : OutKind → Option ObjectKind → List Errno
+errors_of kind.Open object =
+    errno.ENOENT ∷ errno.EACCES ∷ errno.EINTR ∷ errno.EINVAL ∷ errno.EIO ∷ []
+errors_of kind.Read object = read_errors object
+errors_of kind.Write object = write_errors object
+errors_of kind.Seek object = errno.EINVAL ∷ errno.EIO ∷ []
+errors_of kind.Listen object = errno.EADDRINUSE ∷ errno.EACCES ∷ errno.EINVAL ∷ errno.EIO ∷ []
+errors_of kind.Connect object =
     errno.ECONNREFUSED ∷ errno.ECONNRESET ∷ errno.ETIMEDOUT ∷ errno.EADDRINUSE ∷ errno.EACCES
     ∷ errno.EINTR ∷ errno.EINVAL ∷ errno.EIO ∷ []
-errors_of kind.Accept = errno.EAGAIN ∷ errno.EINTR ∷ errno.EIO ∷ []
-errors_of kind.Shutdown = errno.EIO ∷ []
-errors_of kind.Close = errno.EINTR ∷ errno.EIO ∷ []
+errors_of kind.Accept object = errno.EAGAIN ∷ errno.EINTR ∷ errno.EIO ∷ []
+errors_of kind.Shutdown object = errno.EIO ∷ []
+errors_of kind.Close object = errno.EINTR ∷ errno.EIO ∷ []
 
--- the errors to try: those that are named, or else those of the kind
-abbrev pub errors_for : Choice → OutKind → List Errno
-errors_for choice kind = unwrap_or (option_copied choice.errors) (errors_of kind)
+-- the errors to try: those that are named, or else those that it can meet
+abbrev pub errors_for : Choice → OutKind → Option ObjectKind → List Errno
+errors_for choice kind object =
+    unwrap_or (option_copied choice.errors) (errors_of kind object)
 
 -- whether an outcome is the failure with this error
 unfoldable pub is_failure : Outcome → Errno → Bool
@@ -64,10 +78,11 @@ short_successes kind recorded = []
 
 -- ## Both
 
--- what is tried in place of an outcome: failures, and then short counts, if they are chosen
-abbrev pub tried : Choice → Given → List Injected
-tried choice given =
-    failures (errors_for choice given.kind) given.outcome
+-- what is tried in place of an outcome, where a read or a write goes by this: failures, and then
+-- short counts, if they are chosen
+abbrev pub tried : Choice → Option ObjectKind → Given → List Injected
+tried choice object given =
+    failures (errors_for choice given.kind object) given.outcome
     ++ (if choice.short then short_successes given.kind given.outcome else [])
 
 -- ## What differs from an outcome

@@ -1,12 +1,15 @@
 //! Fault injection: runs scripts again and again by the outcomes of a log, each time with another
 //! outcome in the place of one. That finds a failure or a short count that breaks them.
 //!
-//! [`fault_cases`] gives the [`FaultCase`]s of the outcomes of threads: for each outcome the errors
-//! that its kind of request can meet ([`errors_of`]), or those that a [`Choice`] names, and in
-//! place of the bytes of a read or a write fewer ([`short_counts`]). By its contract they are all
-//! of these, in order. [`is_other`] says whether a failure or a count differs from the outcome that
-//! it replaces. [`with_outcome`] gives the outcomes of a case: one is [`Injected`], and all others
-//! are as they were. In no case are all as they were ([`cases_differ`]).
+//! [`places_in`] gives the [`Place`]s of a run: of each call the last outcome that it took, and what
+//! a read or a write went by. A call that waits outside is asked again and again, and each time
+//! takes an outcome; those before the last have no place. Nor has an outcome that no call took.
+//! [`fault_cases`] gives the [`FaultCase`]s of places: for each the errors that its request can
+//! meet ([`errors_of`]), or those that a [`Choice`] names, and in place of the bytes of a read or a
+//! write fewer ([`short_counts`]). By its contract they are all of these, in order. [`is_other`]
+//! says whether a failure or a count differs from the outcome that it replaces. [`with_outcome`]
+//! gives the outcomes of a case: one is [`Injected`], and all others are as they were. In no case
+//! are all as they were ([`cases_differ`]).
 //!
 //! [`run_fault`] makes the plain run of a case. It may stop where a thread asks for an outcome that
 //! it does not have. [`run_filled`] goes on there, with an outcome of a [`Filling`]: a failure, or
@@ -15,8 +18,9 @@
 //! ```rust
 //! use call_machine::Stop;
 //! use explorer::Trial;
-//! use fault_injection::{Choice, Filling, Injected, fault_cases, run_fault, run_filled};
-//! use posix_terms::{Bytes, Errno, Given, OutKind, Outcome, Outcomes, Settings};
+//! use fault_injection::{Choice, FaultCase, Filling, Injected};
+//! use fault_injection::{fault_cases, places_in, run_fault, run_filled};
+//! use posix_terms::{Bytes, Errno, Given, ObjectKind, OutKind, Outcome, Outcomes, Settings};
 //!
 //! // The script writes two bytes to a host file, and the log has both outcomes.
 //! let script = b"host_open out w create\nwrite 0 x6869\n";
@@ -54,15 +58,22 @@
 //!     errors: None,
 //!     short: true,
 //! };
-//! let cases = fault_cases(alloc, &outcomes, choice)?;
-//! // Five errors of an open and five of a write; and writes of no byte, and of one.
-//! assert!(rt; cases.len() == 12);
-//! assert!(rt; cases[11].injected == Injected::Short(1));
-//! let plain = run_fault(alloc, trial, cases[11])?;
+//! // In the run as it is each of both calls takes an outcome.
+//! let as_it_is = trial.run(alloc)?;
+//! let places = places_in(alloc, outcomes.len(), as_it_is.history.rows())?;
+//! assert!(rt; places.len() == 2);
+//! assert!(rt; places[1].object == Some(ObjectKind::HostFile));
+//! let cases = fault_cases(alloc, &outcomes, &places, choice)?;
+//! // Five errors of an open and three of a write to a file; and writes of no byte, and of one.
+//! assert!(rt; cases.len() == 10);
+//! assert!(rt; cases[9].injected == Injected::Short(1));
+//! let plain = run_fault(alloc, trial, cases[9])?;
 //! assert!(rt; plain.stop.is_none());
 //! // A write that is to be made again asks for an outcome that the log does not have.
-//! let again = cases[5];
-//! assert!(rt; again.injected == Injected::Fail(Errno::EAGAIN));
+//! let again = FaultCase {
+//!     injected: Injected::Fail(Errno::EAGAIN),
+//!     ..cases[9]
+//! };
 //! let plain = run_fault(alloc, trial, again)?;
 //! assert!(rt; plain.stop == Some(Stop::EndOfLog(0)));
 //! let plain = run_filled(alloc, trial, again, Filling::Well, 100)?;
@@ -75,6 +86,8 @@ mod filled;
 mod filling;
 mod injected;
 mod laws;
+mod objects;
+mod places;
 mod replaced;
 mod runs;
 mod tried;
@@ -84,6 +97,7 @@ pub use filled::run_filled;
 pub use filling::Filling;
 pub use injected::Injected;
 pub use laws::cases_differ;
+pub use places::{Place, places_in};
 pub use replaced::with_outcome;
 pub use runs::run_fault;
 pub use tried::{errors_of, is_other, short_counts};

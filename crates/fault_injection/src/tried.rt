@@ -1,19 +1,21 @@
 ghost use Rattle.std.specs.Prelude.{◌≡◌, IfOk, filter, map, nat_lt};
 ghost use Rattle.fault_injection.specs.Tried.{errors_for, errors_of, failures, is_failure};
-ghost use Rattle.fault_injection.specs.Tried.{is_other, is_short, short_counts, short_successes};
-ghost use Rattle.fault_injection.specs.Tried.{tried};
+ghost use Rattle.fault_injection.specs.Tried.{is_other, is_short, read_errors, short_counts};
+ghost use Rattle.fault_injection.specs.Tried.{short_successes, tried, write_errors};
 ghost use Rattle.fault_injection.specs.declared.injected.Injected.TheVariants as injected;
 
 use crate::cases::Choice;
 use crate::injected::Injected;
-use posix_terms::{Errno, Given, OutKind, Outcome};
+use posix_terms::{Errno, Given, ObjectKind, OutKind, Outcome};
 use std::alloc::{AllocError, Global};
 
-/// The errors that a request of this kind can meet at a host: of those of its call in POSIX.1-2017
-/// the ones that `host_doors` gives by name and a script can come to; and `EIO`, which it gives for
-/// every other.
-pub fn errors_of(kind: OutKind) -> &'static [Errno]
-    ensures { result.now ≡ errors_of kind }
+/// The errors that a request of this kind can meet at a host, where a read or a write goes by an
+/// object of this kind. Of those of its call in POSIX.1-2017 they are the ones that `host_doors`
+/// gives by name and a script can come to; and `EIO`, which it gives for every other. A read or a
+/// write of a host file meets no error of a connection. It does not fail with `EAGAIN`, since it
+/// waits at the host. A host file may be a named pipe, so a write to it can fail with `EPIPE`.
+pub fn errors_of(kind: OutKind, object: Option<ObjectKind>) -> &'static [Errno]
+    ensures { result.now ≡ errors_of kind object }
 {
     match kind {
         OutKind::Open => &[
@@ -23,20 +25,8 @@ pub fn errors_of(kind: OutKind) -> &'static [Errno]
             Errno::EINVAL,
             Errno::EIO,
         ],
-        OutKind::Read => &[
-            Errno::EAGAIN,
-            Errno::EINTR,
-            Errno::ECONNRESET,
-            Errno::ETIMEDOUT,
-            Errno::EIO,
-        ],
-        OutKind::Write => &[
-            Errno::EAGAIN,
-            Errno::EINTR,
-            Errno::EPIPE,
-            Errno::ECONNRESET,
-            Errno::EIO,
-        ],
+        OutKind::Read => read_errors(object),
+        OutKind::Write => write_errors(object),
         OutKind::Seek => &[Errno::EINVAL, Errno::EIO],
         OutKind::Listen => &[Errno::EADDRINUSE, Errno::EACCES, Errno::EINVAL, Errno::EIO],
         OutKind::Connect => &[
@@ -52,6 +42,38 @@ pub fn errors_of(kind: OutKind) -> &'static [Errno]
         OutKind::Accept => &[Errno::EAGAIN, Errno::EINTR, Errno::EIO],
         OutKind::Shutdown => &[Errno::EIO],
         OutKind::Close => &[Errno::EINTR, Errno::EIO],
+    }
+}
+
+// Those that a read can meet.
+fn read_errors(object: Option<ObjectKind>) -> &'static [Errno]
+    ensures { result.now ≡ read_errors object }
+{
+    match object {
+        Some(ObjectKind::Stream) => &[
+            Errno::EAGAIN,
+            Errno::EINTR,
+            Errno::ECONNRESET,
+            Errno::ETIMEDOUT,
+            Errno::EIO,
+        ],
+        _ => &[Errno::EINTR, Errno::EIO],
+    }
+}
+
+// Those that a write can meet.
+fn write_errors(object: Option<ObjectKind>) -> &'static [Errno]
+    ensures { result.now ≡ write_errors object }
+{
+    match object {
+        Some(ObjectKind::Stream) => &[
+            Errno::EAGAIN,
+            Errno::EINTR,
+            Errno::EPIPE,
+            Errno::ECONNRESET,
+            Errno::EIO,
+        ],
+        _ => &[Errno::EINTR, Errno::EPIPE, Errno::EIO],
     }
 }
 
@@ -77,15 +99,17 @@ fn below(alloc: Global, numbers: &[u64], bound: u64) -> Result<Vec<u64>, AllocEr
         .collect(alloc)
 }
 
-// What is tried in place of an outcome.
+// What is tried in place of an outcome, where a read or a write goes by this.
 pub(crate) fn tried(
     alloc: Global,
     choice: Choice<'_>,
+    object: Option<ObjectKind>,
     given: &Given,
 ) -> Result<Vec<Injected>, AllocError>
-    ensures { IfOk result (λ all. all.items ≡ tried choice.entry given.now) }
+    ensures { IfOk result (λ all. all.items ≡ tried choice.entry object given.now) }
 {
-    let mut all = failures(alloc, errors_for(choice, given.kind), &given.outcome)?;
+    let errors = errors_for(choice, given.kind, object);
+    let mut all = failures(alloc, errors, &given.outcome)?;
     if choice.short {
         let short = short_successes(alloc, given.kind, &given.outcome)?;
         all.extend_from_slice(short.as_slice())?;
@@ -93,13 +117,13 @@ pub(crate) fn tried(
     Ok(all)
 }
 
-// The errors that are named, or else those of the kind.
-fn errors_for<'a>(choice: Choice<'a>, kind: OutKind) -> &'a [Errno]
-    ensures { result.now ≡ errors_for choice.entry kind }
+// The errors that are named, or else those that the request can meet.
+fn errors_for<'a>(choice: Choice<'a>, kind: OutKind, object: Option<ObjectKind>) -> &'a [Errno]
+    ensures { result.now ≡ errors_for choice.entry kind object }
 {
     match choice.errors {
         Some(errors) => errors,
-        None => errors_of(kind),
+        None => errors_of(kind, object),
     }
 }
 

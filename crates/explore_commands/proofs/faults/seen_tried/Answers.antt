@@ -2,7 +2,6 @@ use Rattle.std.proofs.Common.{◌≡◌, ◌<◌, ◌^◌, List, arith, length, 
 use Rattle.std.specs.List.{AllZip}
 use Rattle.std.proofs.lemmas.Result.{IfOk-weaker}
 use Rattle.explorer.specs.Subject.{subject}
-use Rattle.fault_injection.specs.Cases.{fault_cases}
 use Rattle.explore_texts.specs.CaseTexts.{cases_printed}
 use Rattle.explore_texts.specs.Found.{tallied}
 use Rattle.explore_commands.specs.Injections.{AreTried, IsCaseFinding}
@@ -15,26 +14,26 @@ cases_printed-requires g c = λ tally.
     let tried = subject c.args.trial in
     let before = c.args.before.now in
     let findings = c.in_ok-findings.findings.items in
-    let cases = c.in_ok-cases.cases.items in
+    let cases = c.args.cases.now in
     let found : AllZip (IsCaseFinding c.args.options.filling tried before) cases findings =
     search rules in
     let below = cases_below c.args.options.filling tried before cases findings found tally in
     let fits : length findings < 2 ^ 64 = search rules in
     let less : tallied tally findings < 2 ^ 64 = omega (arith, below, fits) in
-    subst (λ (all : List Finding). tallied tally all < 2 ^ 64) (sym c.deref-2.ensures.value) less
+    subst (λ (all : List Finding). tallied tally all < 2 ^ 64) (sym c.deref.ensures.value) less
 
 pub returns : goal.returns
 returns g c =
     let tried = subject c.args.trial in
     let before = c.args.before.now in
     let findings = c.in_ok-findings.findings.items in
-    let cases = fault_cases c.args.options.choice tried.outcomes in
+    let cases = c.args.cases.now in
     let found : AllZip (IsCaseFinding c.args.options.filling tried before) cases findings =
     search rules in
     let as_is = c.in_ok-as_is.as_is in
     IfOk-weaker c.cases_printed.result
     (λ printed. printed ≡ cases_printed c.args.options.shown as_is findings)
-    (AreTried c.args.options tried before)
+    (AreTried c.args.options tried before cases)
     (λ printed says. record {
       as_is = as_is;
       found_as_is = c.in_ok-as_is.ensures;

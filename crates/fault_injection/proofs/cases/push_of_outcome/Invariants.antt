@@ -7,6 +7,6 @@ use Rattle.fault_injection.proofs.cases.push_of_outcome.Given as goal
 abbrev pub invariant-loop-injected : goal.invariant-loop-injected
 invariant-loop-injected l =
     let case_of : Injected → FaultCase =
-    λ one. record { thread = l.thread; number = l.number; injected = one } in
+    λ one. record { thread = l.place.thread; number = l.place.number; injected = one } in
     l.cases.items ++ map case_of (drop l.injected-index l.injected-items)
     ≡ l.initial.cases.items ++ map case_of l.injected-items
