@@ -3,13 +3,13 @@ use Rattle.std.proofs.Common.{◌≡◌, ℕ, false, List, [], ◌∷◌, Option
 use Rattle.serde_json.specs.Data.{string}
 use Rattle.serde_json.specs.Written.{has_float}
 use Rattle.script_checks.specs.declared.checking.BadLine.{BadLine}
+use Rattle.json_views.specs.Exact.{ValuesAreExact}
 use Rattle.json_views.specs.Objects.{optional_value, text_value}
-use Rattle.json_views.proofs.Exact.{object_exact, optional_exact, text_exact}
 use Rattle.check_commands.specs.Json.{bad_line_value, message_value, place_members}
 use Rattle.check_commands.specs.Mistakes.{expected_text, found_text}
 
-pub bad_line_exact : (path : List ℕ) (bad : BadLine) → has_float (bad_line_value path bad) ≡ false
-bad_line_exact path bad = object_exact (
+pub bad_line_exact : ValuesAreExact → (path : List ℕ) (bad : BadLine) → has_float (bad_line_value path bad) ≡ false
+bad_line_exact exact path bad = exact.objects (
     (codes "kind", string (codes "error"))
     ∷ (codes "path", string path)
     ∷ (codes "line", optional_value (Some bad.number))
@@ -24,30 +24,30 @@ bad_line_exact path bad = object_exact (
           refl,
           (
             refl,
-            (text_exact (expected_text bad.mistake.expected), (text_exact (found_text bad.mistake.found), tt)),
+            (exact.texts (expected_text bad.mistake.expected), (exact.texts (found_text bad.mistake.found), tt)),
           ),
         ),
       ),
     )
 
-pub message_exact : (kind path : List ℕ) (line column : Option ℕ) (message : List ℕ)
+pub message_exact : ValuesAreExact → (kind path : List ℕ) (line column : Option ℕ) (message : List ℕ)
     → has_float (message_value (place_members kind path line column) (string message)) ≡ false
-message_exact kind path line column message = object_exact (
+message_exact exact kind path line column message = exact.objects (
     (codes "kind", string kind)
     ∷ (codes "path", string path)
     ∷ (codes "line", optional_value line)
     ∷ (codes "column", optional_value column)
     ∷ (codes "message", string message)
     ∷ [])
-    (refl, (refl, (optional_exact line, (optional_exact column, (refl, tt)))))
+    (refl, (refl, (exact.numbers line, (exact.numbers column, (refl, tt)))))
 
-pub label_exact : (kind path : List ℕ) (line column : Option ℕ) (message : List ℕ)
+pub words_exact : ValuesAreExact → (kind path : List ℕ) (line column : Option ℕ) (message : List ℕ)
     → has_float (message_value (place_members kind path line column) (text_value message)) ≡ false
-label_exact kind path line column message = object_exact (
+words_exact exact kind path line column message = exact.objects (
     (codes "kind", string kind)
     ∷ (codes "path", string path)
     ∷ (codes "line", optional_value line)
     ∷ (codes "column", optional_value column)
     ∷ (codes "message", text_value message)
     ∷ [])
-    (refl, (refl, (optional_exact line, (optional_exact column, (text_exact message, tt)))))
+    (refl, (refl, (exact.numbers line, (exact.numbers column, (exact.texts message, tt)))))

@@ -1,7 +1,7 @@
 -- Believed: a contract of a command stands on it.
 -- The printed lines of what is found of a script.
 use Rattle.std.specs.Prelude.{ℕ, Bool, true, false, List, [], ◌∷◌, ◌++◌, slice_get, codes, Option}
-use Rattle.std.specs.Prelude.{Some, None, ◌==◌, if◌then◌else◌}
+use Rattle.std.specs.Prelude.{Some, None, ◌==◌, bytes_eq, if◌then◌else◌}
 use Rattle.std.specs.Fmt.{decimal}
 use Rattle.command_texts.specs.Transcripts.{◌+++◌}
 use Rattle.thread_scripts.specs.declared.line.Line.{Line}
@@ -13,7 +13,10 @@ use Rattle.script_checks.specs.declared.concerns.Concern.{Concern}
 use Rattle.script_checks.specs.declared.concerns.Concern.TheVariants as concern
 use Rattle.script_checks.specs.declared.concerns.Warning.{Warning}
 use Rattle.script_checks.specs.declared.words.PlacedWord.{PlacedWord}
-use Rattle.check_commands.specs.Mistakes.{mistake_text}
+use Rattle.script_checks.specs.Paths as refusal
+use Rattle.script_checks.specs.Paths.{Refusal, error_of, path_refusal}
+use Rattle.posix_terms.specs.Errors.{name_of}
+use Rattle.check_commands.specs.Mistakes.{mistake_text, quoted}
 
 -- where something stands: the path of the script, the line and the column
 abbrev pub position_text : List ℕ → ℕ → ℕ → List ℕ
@@ -54,20 +57,49 @@ abbrev pub warning_head : List ℕ → ActingLine → ℕ → List ℕ
 warning_head path l word =
     position_text path l.number (column_of (slice_get l.words.items word)) +++ codes "warning: "
 
--- the words before the name of a label that is not used
-unfoldable pub unused_words : List ℕ
-unused_words = codes "no line jumps to the label "
+-- the word of a line, from 0, at which a warning of it stands
+abbrev pub concern_word : Concern → ℕ
+concern_word concern.UnusedLabel = 1
+concern_word concern.NeverReached = 0
+concern_word (concern.PathRefused word) = word
 
--- that no line jumps to the label with this name
-abbrev pub label_words : List ℕ → List ℕ
-label_words name = unused_words +++ name +++ codes "\n"
+-- why a path is refused, in words
+abbrev pub refusal_words : Refusal → List ℕ
+refusal_words refusal.Empty = codes "it is empty"
+refusal_words refusal.TooLong = codes "it has more than 255 bytes"
+refusal_words (refusal.Dots name) = quoted name +++ codes " is not a name"
+refusal_words refusal.EndsInSlash = codes "it ends with a slash"
+refusal_words (refusal.LongName name) =
+    codes "the name " +++ quoted name +++ codes " has more than 14 bytes"
+
+-- the error with which it is, and why
+unfoldable pub error_words : Option Refusal → List ℕ
+error_words None = []
+error_words (Some r) =
+    codes " with " +++ name_of (error_of r) +++ codes ": " +++ refusal_words r
+
+-- the path that a word names: `""` is the empty one
+abbrev pub path_in : List ℕ → List ℕ
+path_in word = if bytes_eq word (34 ∷ 34 ∷ []) then [] else word
+
+-- that the call of this word refuses the path of that one
+abbrev pub path_words : List ℕ → List ℕ → List ℕ
+path_words name word =
+    name +++ codes " refuses this path" +++ error_words (path_refusal (path_in word))
+
+-- what may be wrong with a line that has these words
+unfoldable pub concern_words : Concern → List PlacedWord → List ℕ
+concern_words concern.UnusedLabel words =
+    codes "no line jumps to the label " +++ text_of (slice_get words 1)
+concern_words concern.NeverReached words = codes "this line is never reached"
+concern_words (concern.PathRefused word) words =
+    path_words (text_of (slice_get words 0)) (text_of (slice_get words word))
 
 -- what is printed for a warning at a line of a script
 abbrev pub warning_text : List ℕ → Concern → ActingLine → List ℕ
-warning_text path concern.UnusedLabel l =
-    warning_head path l 1 +++ label_words (text_of (slice_get l.words.items 1))
-warning_text path concern.NeverReached l =
-    warning_head path l 0 +++ codes "this line is never reached\n"
+warning_text path concern l =
+    warning_head path l (concern_word concern) +++ concern_words concern l.words.items
+    +++ codes "\n"
 
 -- what is printed for a line, and nothing where there is none
 abbrev pub if_there : (ActingLine → List ℕ) → Option ActingLine → List ℕ

@@ -9,11 +9,10 @@ use Rattle.script_checks.specs.declared.checking.BadLine.{BadLine}
 use Rattle.script_checks.specs.declared.checking.Checked.{Checked}
 use Rattle.script_checks.specs.declared.checking.Checked.TheVariants as checked
 use Rattle.script_checks.specs.declared.concerns.Concern.{Concern}
-use Rattle.script_checks.specs.declared.concerns.Concern.TheVariants as concern
 use Rattle.script_checks.specs.declared.concerns.Warning.{Warning}
 use Rattle.serde_json.specs.Data.{Data, no_members, object, string}
 use Rattle.json_views.specs.Objects.{Member, line_of, optional_value, text_value, with_members}
-use Rattle.check_commands.specs.Findings.{column_of, if_there, text_of, unused_words}
+use Rattle.check_commands.specs.Findings.{column_of, concern_word, concern_words, if_there}
 use Rattle.check_commands.specs.Mistakes.{expected_text, found_text}
 
 -- whether it is an error or a warning, the path of the script, and where in it that stands
@@ -69,11 +68,9 @@ warning_place path l word =
 
 -- a warning at a line of a script
 abbrev pub warning_json : List ℕ → Concern → ActingLine → List ℕ
-warning_json path concern.UnusedLabel l = line_of (
-    message_value (warning_place path l 1)
-    (text_value (unused_words ++ text_of (slice_get l.words.items 1))))
-warning_json path concern.NeverReached l = line_of (
-    message_value (warning_place path l 0) (string (codes "this line is never reached")))
+warning_json path concern l = line_of (
+    message_value (warning_place path l (concern_word concern))
+    (text_value (concern_words concern l.words.items)))
 
 -- the lines of the warnings of a script, in order
 abbrev pub warnings_json : List ℕ → List ActingLine → List Warning → List ℕ

@@ -104,8 +104,8 @@ pub(crate) fn push_found(text: &mut Vec<u8>, found: &Found) -> Result<(), AllocE
     }
 }
 
-// Adds a word in quotes; of a long one its front, and how long it is.
-fn push_quoted(text: &mut Vec<u8>, word: &[u8]) -> Result<(), AllocError>
+/// Adds a word in quotes; of a long one its front, and how long it is.
+pub(crate) fn push_quoted(text: &mut Vec<u8>, word: &[u8]) -> Result<(), AllocError>
     ensures { OnOk result (text.new.items ≡ text.old.items ++ quoted word.now) }
 {
     push_word(text, "\"")?;

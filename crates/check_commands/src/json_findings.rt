@@ -2,19 +2,18 @@
 ghost use Rattle.std.specs.Prelude.{◌≡◌, ◌++◌, IfOk, OnOk, slice_get, string_bytes};
 ghost use Rattle.serde_json.specs.Data.{string};
 ghost use Rattle.serde_json.specs.View.{members_view, view};
-ghost use Rattle.script_checks.specs.declared.concerns.Concern.TheVariants as concern;
 ghost use Rattle.json_views.specs.Objects.{line_of, text_value, with_members};
-ghost use Rattle.check_commands.specs.Findings.{if_there, text_of, unused_words};
+ghost use Rattle.check_commands.specs.Findings.{concern_word, concern_words, if_there};
 ghost use Rattle.check_commands.specs.Json.{bad_line_value, bad_lines_json, checked_json};
 ghost use Rattle.check_commands.specs.Json.{error_json, left_out_json, left_out_words};
 ghost use Rattle.check_commands.specs.Json.{message_value, place_members, warning_json};
 ghost use Rattle.check_commands.specs.Json.{warning_place, warnings_json};
 ghost use Rattle.check_commands.specs.Mistakes.{expected_text, found_text};
 
+use crate::concern_words::{concern_word, push_concern};
 use crate::expected_text::{push_expected, push_found};
-use crate::warning_lines::{column_of, text_of, unused_words};
-use command_texts::push_word;
-use json_views::{push_line, text_value};
+use crate::warning_lines::column_of;
+use json_views::{push_line, text_value, values_are_exact};
 use script_checks::{ActingLine, BadLine, Checked, Concern, Expected, Found, Warning};
 use serde_json::{Map, Value, json, put};
 use std::alloc::{AllocError, Global};
@@ -79,6 +78,7 @@ fn push_bad_line_json(text: &mut Vec<u8>, path: &str, bad: &BadLine) -> Result<(
         text.new.items ≡ text.old.items ++ line_of (bad_line_value path.now bad.now)) }
 {
     let value = bad_line_value(*text.allocator(), path, bad)?;
+    values_are_exact();
     push_line(text, &value)
 }
 
@@ -185,6 +185,7 @@ pub(crate) fn push_message(
         (string message.now))) }
 {
     let value = message_value(*text.allocator(), place, message)?;
+    values_are_exact();
     push_line(text, &value)
 }
 
@@ -234,6 +235,7 @@ fn push_at_place_json(
     }
 }
 
+#[tactic(auto, using(crate::proofs::ExactFindings::words_exact))]
 fn push_warning_json(
     text: &mut Vec<u8>,
     path: &str,
@@ -243,16 +245,32 @@ fn push_warning_json(
     ensures { OnOk result (
         text.new.items ≡ text.old.items ++ warning_json path.now concern line.now) }
 {
-    match concern {
-        Concern::UnusedLabel => push_unused_label(text, path, line),
-        Concern::NeverReached => {
-            push_message(
-                text,
-                warning_place(path, line, 0),
-                "this line is never reached",
-            )
-        }
-    }
+    let value = warning_value(*text.allocator(), path, line, concern)?;
+    values_are_exact();
+    push_line(text, &value)
+}
+
+fn warning_value(
+    alloc: Global,
+    path: &str,
+    line: &ActingLine,
+    concern: Concern,
+) -> Result<Value, AllocError>
+    ensures { IfOk result (λ value.
+        view value
+        ≡ message_value (warning_place path.now line.now (concern_word concern))
+        (text_value (concern_words concern line.now.words.items))) }
+{
+    let mut words = Vec::new(alloc);
+    push_concern(&mut words, concern, &line.words)?;
+    let mut members = Map::new(alloc);
+    put_place(
+        &mut members,
+        alloc,
+        warning_place(path, line, concern_word(concern)),
+    )?;
+    put(&mut members, alloc, "message", text_value(alloc, &words)?)?;
+    Ok(Value::Object(members))
 }
 
 /// The place of a warning at this word of a line.
@@ -266,28 +284,4 @@ pub(crate) fn warning_place<'a>(path: &'a str, line: &ActingLine, word: usize) -
         line: Some(line.number),
         column: Some(column_of(&line.words, word)),
     }
-}
-
-#[tactic(auto, using(crate::proofs::ExactFindings::label_exact))]
-fn push_unused_label(text: &mut Vec<u8>, path: &str, line: &ActingLine) -> Result<(), AllocError>
-    ensures { OnOk result (
-        text.new.items ≡ text.old.items ++ warning_json path.now concern.UnusedLabel line.now) }
-{
-    let value = unused_label_value(*text.allocator(), path, line)?;
-    push_line(text, &value)
-}
-
-fn unused_label_value(alloc: Global, path: &str, line: &ActingLine) -> Result<Value, AllocError>
-    ensures { IfOk result (λ value.
-        view value
-        ≡ message_value (warning_place path.now line.now 1)
-        (text_value (unused_words ++ text_of (slice_get line.now.words.items 1)))) }
-{
-    let mut words = Vec::new(alloc);
-    push_word(&mut words, unused_words())?;
-    words.extend_from_slice(text_of(&line.words, 1))?;
-    let mut members = Map::new(alloc);
-    put_place(&mut members, alloc, warning_place(path, line, 1))?;
-    put(&mut members, alloc, "message", text_value(alloc, &words)?)?;
-    Ok(Value::Object(members))
 }

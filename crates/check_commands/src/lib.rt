@@ -7,6 +7,7 @@
 
 mod bad_lines;
 mod checking;
+mod concern_words;
 mod expected_text;
 mod expecting;
 mod json_findings;

@@ -1,9 +1,8 @@
 ghost use Rattle.std.specs.Prelude.{◌≡◌, ◌++◌, OnOk, slice_get};
-ghost use Rattle.script_checks.specs.declared.concerns.Concern.TheVariants as concern;
-ghost use Rattle.check_commands.specs.Findings.{column_of, if_there, label_words, text_of};
-ghost use Rattle.check_commands.specs.Findings.{unused_words};
-ghost use Rattle.check_commands.specs.Findings.{warning_head, warning_text, warnings_text};
+ghost use Rattle.check_commands.specs.Findings.{column_of, if_there, warning_head};
+ghost use Rattle.check_commands.specs.Findings.{warning_text, warnings_text};
 
+use crate::concern_words::{concern_word, push_concern};
 use crate::positions::push_position;
 use command_texts::push_word;
 use script_checks::{ActingLine, Concern, PlacedWord, Warning};
@@ -52,41 +51,9 @@ fn push_warning(
     ensures { OnOk result (
         text.new.items ≡ text.old.items ++ warning_text path.now concern line.now) }
 {
-    match concern {
-        Concern::UnusedLabel => push_unused_label(text, path, line),
-        Concern::NeverReached => push_never_reached(text, path, line),
-    }
-}
-
-fn push_unused_label(text: &mut Vec<u8>, path: &str, line: &ActingLine) -> Result<(), AllocError>
-    ensures { OnOk result (
-        text.new.items ≡ text.old.items ++ warning_text path.now concern.UnusedLabel line.now) }
-{
-    push_warning_head(text, path, line, 1)?;
-    push_label_words(text, text_of(&line.words, 1))
-}
-
-fn push_label_words(text: &mut Vec<u8>, name: &[u8]) -> Result<(), AllocError>
-    ensures { OnOk result (text.new.items ≡ text.old.items ++ label_words name.now) }
-{
-    push_word(text, unused_words())?;
-    text.extend_from_slice(name)?;
+    push_warning_head(text, path, line, concern_word(concern))?;
+    push_concern(text, concern, &line.words)?;
     push_word(text, "\n")
-}
-
-#[tactic(auto, unfolding(crate::specs::Findings::unused_words))]
-pub(crate) fn unused_words() -> &'static str
-    ensures { result.now ≡ unused_words }
-{
-    "no line jumps to the label "
-}
-
-fn push_never_reached(text: &mut Vec<u8>, path: &str, line: &ActingLine) -> Result<(), AllocError>
-    ensures { OnOk result (
-        text.new.items ≡ text.old.items ++ warning_text path.now concern.NeverReached line.now) }
-{
-    push_warning_head(text, path, line, 0)?;
-    push_word(text, "this line is never reached\n")
 }
 
 /// Adds the head of a warning at this word of a line.
@@ -109,14 +76,5 @@ pub(crate) fn column_of(words: &[PlacedWord], word: usize) -> usize
     match words.get(word) {
         Some(word) => word.column,
         None => 1,
-    }
-}
-
-pub(crate) fn text_of<'a>(words: &[PlacedWord<'a>], word: usize) -> &'a [u8]
-    ensures { result.now ≡ text_of (slice_get words.now word) }
-{
-    match words.get(word) {
-        Some(word) => word.text,
-        None => &[],
     }
 }

@@ -32,6 +32,8 @@ none_left turns thread number k rows text past =
     let over : length (take number rows) ≤ k = rw (length-take number rows) past in
     rw (drop_of_length-le (take number rows) over) (simp append-nil)
 
+pub ruleset rows = (row_added, none_left)
+
 -- the same of the lines in JSON
 pub line_added : (turns : Bool) (thread number k : ℕ) (rows : List Row) (row : Row) (text : List ℕ)
     → k < number → k < length rows → row ≡ get_or rows k row
@@ -50,3 +52,5 @@ pub no_line_left : (turns : Bool) (thread number k : ℕ) (rows : List Row) (tex
 no_line_left turns thread number k rows text past =
     let over : length (take number rows) ≤ k = rw (length-take number rows) past in
     rw (drop_of_length-le (take number rows) over) (simp append-nil)
+
+pub ruleset lines = (line_added, no_line_left)

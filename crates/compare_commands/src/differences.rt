@@ -106,7 +106,7 @@ pub(crate) fn rows_of(transcripts: &Transcripts, thread: usize) -> &[Row]
 }
 
 // Adds the rows of a thread before this one, three at most.
-#[tactic(auto, using(std::proofs::lemmas::Grind::common_steps, crate::proofs::RowsBefore::row_added, crate::proofs::RowsBefore::none_left))]
+#[tactic(auto, using(std::proofs::lemmas::Grind::common_steps, crate::proofs::RowsBefore::rows))]
 fn push_before(
     text: &mut Vec<u8>,
     turns: bool,

@@ -12,7 +12,7 @@ use crate::differences::{ROWS_BEFORE, rows_of, verdict_status};
 use call_machine::Stop;
 use command_texts::Printed;
 use comparator::Verdict;
-use json_views::{push_line, push_side_end, push_side_row};
+use json_views::{push_line, push_side_end, push_side_row, values_are_exact};
 use posix_terms::{Bytes, Row, Transcripts};
 use serde_json::{Value, json};
 use std::alloc::{AllocError, Global};
@@ -60,6 +60,7 @@ fn push_verdict(text: &mut Vec<u8>, verdict: Verdict) -> Result<(), AllocError>
     ensures { OnOk result (text.new.items ≡ text.old.items ++ verdict_json_line verdict) }
 {
     let value = verdict_value(*text.allocator(), verdict)?;
+    values_are_exact();
     push_line(text, &value)
 }
 
@@ -139,7 +140,7 @@ fn push_row_by(
 }
 
 // Adds the rows of a thread before this one, three at most: both logs have them.
-#[tactic(auto, using(std::proofs::lemmas::Grind::common_steps, crate::proofs::RowsBefore::line_added, crate::proofs::RowsBefore::no_line_left))]
+#[tactic(auto, using(std::proofs::lemmas::Grind::common_steps, crate::proofs::RowsBefore::lines))]
 fn push_before(
     text: &mut Vec<u8>,
     turns: bool,

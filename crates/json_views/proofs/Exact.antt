@@ -11,12 +11,13 @@ use Rattle.posix_terms.specs.Replies.{kind_code}
 use Rattle.posix_terms.specs.declared.call.OpenFlags.{OpenFlags}
 use Rattle.posix_terms.specs.declared.reply.Reply.{Reply}
 use Rattle.posix_terms.specs.declared.reply.Reply.TheVariants as reply
-use Rattle.serde_json.specs.Data.{Data, Members, boolean, no_members, member, put, string}
+use Rattle.serde_json.specs.Data.{Data, Members, array, boolean, no_members, member, put, string}
 use Rattle.serde_json.specs.View.{items_of}
 use Rattle.serde_json.specs.Written.{has_float, items_have_float, members_have_float}
 use Rattle.thread_scripts.specs.Words.{is_ascii}
 use Rattle.json_views.specs.Calls.{arguments_of, arguments_value, flag_word, flags_value, member_of}
 use Rattle.json_views.specs.Calls.{number_value, pair_value, reply_value, said_value, stat_value}
+use Rattle.json_views.specs.Exact.{AllExact, AreExact}
 use Rattle.json_views.specs.Objects.{Member, count_value, hex_value, object_of, optional_value, text_value}
 use Rattle.json_views.specs.Objects.{with_members}
 
@@ -44,11 +45,6 @@ put_exact name d (member other e rest) exact others =
     (neither (has_float d) (members_have_float rest) exact both.1)
     (neither (has_float e) (members_have_float (put name d rest)) both.0 (put_exact name d rest exact both.1))
 
--- none of these members has a float
-abbrev pub AreExact : List Member → Type 0
-AreExact [] = Unit {0}
-AreExact (m ∷ more) = (has_float m.1 ≡ false) × AreExact more
-
 with_exact : (before : Members) (more : List Member) → members_have_float before ≡ false → AreExact more
     → members_have_float (with_members before more) ≡ false
 with_exact before [] none exact = none
@@ -57,6 +53,10 @@ with_exact before (m ∷ more) none exact =
 
 pub object_exact : (members : List Member) → AreExact members → has_float (object_of members) ≡ false
 object_exact members exact = with_exact no_members members refl exact
+
+pub array_exact : (values : List Data) → AllExact values → has_float (array (items_of values)) ≡ false
+array_exact [] exact = refl
+array_exact (value ∷ more) exact = neither (has_float value) _ exact.0 (array_exact more exact.1)
 
 number_exact : (n : ℤ) → has_float (number_value n) ≡ false
 number_exact (pos n) = refl

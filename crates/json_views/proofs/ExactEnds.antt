@@ -7,7 +7,7 @@ use Rattle.json_views.specs.Ends.{end_value, end_words, outcome_stopped, thread_
 use Rattle.json_views.specs.Objects.{count_value, optional_value}
 use Rattle.json_views.proofs.Exact.{object_exact, optional_exact, text_exact}
 
-unmet_exact : (unmet : Option (List ℕ)) → has_float (unmet_value unmet) ≡ false
+pub unmet_exact : (unmet : Option (List ℕ)) → has_float (unmet_value unmet) ≡ false
 unmet_exact None = refl
 unmet_exact (Some line) = text_exact line
 

@@ -8,7 +8,7 @@ use Rattle.serde_json.specs.Written.{has_float}
 use Rattle.json_views.specs.Calls.{arguments_value, reply_value}
 use Rattle.json_views.specs.Ends.{end_words, outcome_stopped, thread_stopped}
 use Rattle.json_views.specs.Objects.{count_value, optional_value}
-use Rattle.json_views.specs.Sides.{clock_counted, side_end_value, side_row_value}
+use Rattle.json_views.specs.Sides.{clock_counted, seen_value, side_end_value, side_row_value}
 use Rattle.json_views.proofs.Exact.{arguments_exact, object_exact, optional_exact, reply_exact}
 
 pub side_row_exact : (by : List ℕ) (turns : Bool) (thread number : ℕ) (row : Option Row)
@@ -44,6 +44,15 @@ side_row_exact by turns thread number (Some row) = object_exact (
         ),
       ),
     )
+
+pub seen_exact : (row : Option Row) → has_float (seen_value row) ≡ false
+seen_exact None = refl
+seen_exact (Some row) = object_exact (
+    (codes "call", string (word_of (kind_of row.call)))
+    ∷ (codes "arguments", arguments_value row.call)
+    ∷ (codes "reply", reply_value row.reply)
+    ∷ [])
+    (refl, (arguments_exact row.call, (reply_exact row.reply, tt)))
 
 pub side_end_exact : (by : List ℕ) (stop : Option Stop) → has_float (side_end_value by stop) ≡ false
 side_end_exact by stop = object_exact (

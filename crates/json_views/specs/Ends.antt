@@ -8,7 +8,8 @@ use Rattle.machine.specs.declared.stop.Stop.TheVariants as stop
 use Rattle.command_texts.specs.Transcripts.{end_status}
 use Rattle.command_texts.specs.declared.printed.Printed.{Printed}
 use Rattle.answered_calls.specs.Answered.{Answered}
-use Rattle.json_views.specs.Objects.{count_value, line_of, object_of, optional_value, text_value}
+use Rattle.json_views.specs.Objects.{Member, count_value, line_of, object_of, optional_value}
+use Rattle.json_views.specs.Objects.{text_value}
 use Rattle.json_views.specs.Rows.{row_line}
 
 -- how a run ended: the words of its printed last line without the numbers
@@ -36,6 +37,14 @@ outcome_stopped _ = None
 abbrev pub unmet_value : Option (List ℕ) → Data
 unmet_value None = null
 unmet_value (Some line) = text_value line
+
+-- how a run ended, as members of an object
+abbrev pub end_members : Option Stop → List Member
+end_members stop =
+    (codes "end", string (end_words stop))
+    ∷ (codes "thread", optional_value (thread_stopped stop))
+    ∷ (codes "outcome", optional_value (outcome_stopped stop))
+    ∷ []
 
 -- the end of a run that stopped so, with this status and this first unmet expectation
 abbrev pub end_value : Option Stop → ℕ → Option (List ℕ) → Data

@@ -4,3 +4,4 @@ pub mod Rows
 pub mod Ends
 pub mod Logs
 pub mod Sides
+pub mod Exact

@@ -35,6 +35,15 @@ seen_members turns None =
     (codes "clock", null) ∷ (codes "call", null) ∷ (codes "arguments", null)
     ∷ (codes "reply", null) ∷ []
 
+-- what was seen in a row, as an object of its own: null, where there is no such row
+abbrev pub seen_value : Option Row → Data
+seen_value None = null
+seen_value (Some row) = object_of (
+    (codes "call", string (word_of (kind_of row.call)))
+    ∷ (codes "arguments", arguments_value row.call)
+    ∷ (codes "reply", reply_value row.reply)
+    ∷ [])
+
 -- both
 abbrev pub side_row_value : List ℕ → Bool → ℕ → ℕ → Option Row → Data
 side_row_value by turns thread number row = object (

@@ -1,10 +1,12 @@
 ghost use Rattle.std.specs.Prelude.{◌≡◌, ◌++◌, [], IfOk, OnOk, map, option_copied};
 ghost use Rattle.std.specs.Bool.{then_some};
 ghost use Rattle.std.specs.List.{flat_map};
-ghost use Rattle.serde_json.specs.View.{view};
+ghost use Rattle.serde_json.specs.View.{members_view, view};
 ghost use Rattle.answered_calls.specs.Seen.{seen};
-ghost use Rattle.json_views.specs.Ends.{end_line, end_value, end_words, outcome_stopped, run_json};
+ghost use Rattle.json_views.specs.Ends.{end_line, end_members, end_value, end_words};
+ghost use Rattle.json_views.specs.Ends.{outcome_stopped, run_json};
 ghost use Rattle.json_views.specs.Ends.{status_with, thread_stopped, unmet_value};
+ghost use Rattle.json_views.specs.Objects.{with_members};
 ghost use Rattle.json_views.specs.Rows.{row_line};
 
 use crate::rows::push_row_json;
@@ -13,7 +15,7 @@ use answered_calls::AnsweredCall;
 use command_texts::{Printed, end_status};
 use machine::Stop;
 use posix_terms::Bytes;
-use serde_json::{Value, json};
+use serde_json::{Map, Value, json, put};
 use std::alloc::{AllocError, Global};
 
 /// What is to be printed in JSON for a run with these calls that ended so: the line of each call,
@@ -94,7 +96,34 @@ fn end_value(
     })
 }
 
-fn unmet_value(alloc: Global, unmet: Option<&[u8]>) -> Result<Value, AllocError>
+/// Puts in how a run ended, with the thread and the outcome that this is about.
+pub fn put_end(
+    members: &mut Map<String, Value>,
+    alloc: Global,
+    stop: Option<Stop>,
+) -> Result<(), AllocError>
+    ensures { OnOk result (
+        members_view members.new.entries
+        ≡ with_members (members_view members.old.entries) (end_members stop)) }
+{
+    put(members, alloc, "end", json!(in alloc; end_words(stop))?)?;
+    put(
+        members,
+        alloc,
+        "thread",
+        json!(in alloc; thread_stopped(stop))?,
+    )?;
+    put(
+        members,
+        alloc,
+        "outcome",
+        json!(in alloc; outcome_stopped(stop))?,
+    )
+}
+
+/// What is printed, without its line feed, of the first reply that is not as expected; null, where
+/// there is none.
+pub fn unmet_value(alloc: Global, unmet: Option<&[u8]>) -> Result<Value, AllocError>
     ensures { IfOk result (λ value. view value ≡ unmet_value (option_copied unmet.entry)) }
 {
     match unmet {

@@ -1,7 +1,7 @@
 ghost use Rattle.std.specs.Prelude.{◌≡◌, ◌++◌, IfOk, OnOk, None, Some, option_copied, true};
 ghost use Rattle.serde_json.specs.View.{members_view, view};
 ghost use Rattle.json_views.specs.Objects.{with_members};
-ghost use Rattle.json_views.specs.Sides.{clock_counted, seen_members, side_end_line};
+ghost use Rattle.json_views.specs.Sides.{clock_counted, seen_members, seen_value, side_end_line};
 ghost use Rattle.json_views.specs.Sides.{side_end_value, side_place, side_row_line, side_row_value};
 
 use crate::arguments::arguments_value;
@@ -129,6 +129,22 @@ fn clock_counted(turns: bool, clock: u64) -> Option<u64>
     ensures { result ≡ clock_counted turns clock }
 {
     if turns { Some(clock) } else { None }
+}
+
+/// What was seen in a row, without its turn: an object, and null where there is no such row.
+pub fn seen_value(alloc: Global, row: Option<&Row>) -> Result<Value, AllocError>
+    ensures { IfOk result (λ value. view value ≡ seen_value (option_copied row.entry)) }
+{
+    let Some(row) = row else {
+        return Ok(Value::Null);
+    };
+    let arguments = arguments_value(alloc, &row.call)?;
+    let reply = reply_value(alloc, &row.reply)?;
+    json!(in alloc; {
+        "call": row.call.kind().word(),
+        "arguments": arguments,
+        "reply": reply
+    })
 }
 
 /// Adds the line of how a replay by this log ended: an object, and a line feed.

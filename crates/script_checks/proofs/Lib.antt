@@ -1,4 +1,5 @@
 pub mod Marking
 pub mod Naming
 pub mod Numbering
+pub mod Refusing
 pub mod Telling

@@ -1,9 +1,13 @@
-ghost use Rattle.std.specs.Prelude.{◌≡◌, Bool, IfOk, List};
+ghost use Rattle.std.specs.Prelude.{◌≡◌, ◌++◌, Bool, IfOk, List, OnOk, option_map};
 ghost use Rattle.std.specs.List.{list_any};
-ghost use Rattle.script_checks.specs.Concerns.{is_unused_label, jumps_to, warnings_from};
+ghost use Rattle.script_checks.specs.Concerns.{first_path, is_unused_label, jumps_to};
+ghost use Rattle.script_checks.specs.Concerns.{path_warning, path_warnings, second_path};
+ghost use Rattle.script_checks.specs.Concerns.{warnings_from};
 ghost use Rattle.script_checks.specs.Reaching.{AreReached};
 
+use crate::paths::path_fault;
 use crate::reaching::reached;
+use posix_terms::Call;
 use std::alloc::{AllocError, Global};
 use thread_scripts::Line;
 
@@ -14,6 +18,9 @@ pub enum Concern {
     UnusedLabel,
     /// No way through the script leads to it.
     NeverReached,
+    /// It is a call that refuses the path in this word of it, whatever the tree in memory holds
+    /// ([`path_fault`](crate::path_fault)). Words are numbered from 0.
+    PathRefused { word: usize },
 }
 
 /// A line of a script that may be wrong, by its place: how many lines that do something lie before.
@@ -52,8 +59,72 @@ fn is_unused_label(lines: &[Line], place: usize, line: &Line) -> bool
     }
 }
 
-/// The lines of a script that may be wrong, in order: the labels to which no line jumps, and the
-/// lines that are never reached ([`reached`]). Of one line the label comes first.
+// The path of the tree in memory that a line has in its word 1, if it has one.
+fn first_path(line: &Line) -> Option<&[u8]>
+    ensures { option_map (λ path. path.now) result ≡ first_path line.now }
+{
+    match line {
+        Line::Call(Call::Open { path, .. })
+        | Line::Call(Call::Unlink { path })
+        | Line::Call(Call::Mkdir { path })
+        | Line::Call(Call::Rmdir { path }) => Some(path.as_slice()),
+        Line::Call(Call::Link { old_path, .. }) | Line::Call(Call::Rename { old_path, .. }) => {
+            Some(old_path.as_slice())
+        }
+        _ => None,
+    }
+}
+
+// That in its word 2.
+fn second_path(line: &Line) -> Option<&[u8]>
+    ensures { option_map (λ path. path.now) result ≡ second_path line.now }
+{
+    match line {
+        Line::Call(Call::Link { new_path, .. }) | Line::Call(Call::Rename { new_path, .. }) => {
+            Some(new_path.as_slice())
+        }
+        _ => None,
+    }
+}
+
+// Adds the warning of the path in this word of a line, if it is refused.
+fn push_path_warning(
+    warnings: &mut Vec<Warning>,
+    place: usize,
+    word: usize,
+    path: Option<&[u8]>,
+) -> Result<(), AllocError>
+    ensures { OnOk result (
+        warnings.new.items
+        ≡ warnings.old.items
+        ++ path_warning place word (option_map (λ path. path.now) path.entry)) }
+{
+    let Some(path) = path else {
+        return Ok(());
+    };
+    if path_fault(*warnings.allocator(), path)?.is_some() {
+        let concern = Concern::PathRefused { word };
+        warnings.push(Warning { place, concern })?;
+    }
+    Ok(())
+}
+
+// Adds those of the paths of a line.
+fn push_path_warnings(
+    warnings: &mut Vec<Warning>,
+    place: usize,
+    line: &Line,
+) -> Result<(), AllocError>
+    ensures { OnOk result (
+        warnings.new.items ≡ warnings.old.items ++ path_warnings place line.now) }
+{
+    push_path_warning(warnings, place, 1, first_path(line))?;
+    push_path_warning(warnings, place, 2, second_path(line))
+}
+
+/// The lines of a script that may be wrong, in order: the labels to which no line jumps, the lines
+/// that are never reached ([`reached`]), and the calls that refuse a path. Of one line they come in
+/// this order.
 pub(crate) fn warnings(alloc: Global, lines: &[Line]) -> Result<Vec<Warning>, AllocError>
     ensures { IfOk result (λ warnings.
         (marks : List Bool) × AreReached lines.now marks
@@ -70,6 +141,7 @@ pub(crate) fn warnings(alloc: Global, lines: &[Line]) -> Result<Vec<Warning>, Al
             let concern = Concern::NeverReached;
             warnings.push(Warning { place, concern })?;
         }
+        push_path_warnings(&mut warnings, place, &lines[place])?;
     }
     Ok(warnings)
 }

@@ -7,7 +7,9 @@
 //! [`first_use`] where a script does so first. What takes memory fails only where there is none.
 //!
 //! By the contracts the lines are exactly the bad ones, a label is warned of exactly when no line
-//! jumps to it, and a line exactly when it is not reached. What is said to be expected is tested.
+//! jumps to it, and a line exactly when it is not reached. A path is warned of exactly when
+//! [`path_fault`] gives a reason, which is when calls refuse it for its form, by the law
+//! [`paths_are_refused`]. What is said to be expected is tested.
 //!
 //! ```rust
 //! use script_checks::{Checked, Expected, Found, OperandShape, check_text};
@@ -28,7 +30,9 @@ mod diagnosis;
 mod expected;
 mod fitting;
 mod labels;
+mod laws;
 mod operand;
+mod paths;
 mod reaching;
 mod shape;
 mod words;
@@ -37,5 +41,7 @@ pub use checking::{ActingLine, BadLine, Checked, SHOWN, check_text};
 pub use concerns::{Concern, Warning};
 pub use descriptors::{SharedDescriptor, first_use, shared_descriptors};
 pub use expected::{Expected, Found, Mistake};
+pub use laws::paths_are_refused;
 pub use operand::{FlagSet, OperandShape};
+pub use paths::{PathFault, path_fault};
 pub use words::PlacedWord;
