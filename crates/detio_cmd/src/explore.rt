@@ -1,16 +1,18 @@
 use crate::heard::Role;
 use crate::input::{open_scripts, open_source};
 use crate::output::{Errors, Output};
-use crate::progress::ProgressLine;
+use crate::progress::{MinimiseLine, ProgressLine};
 use crate::refusals::Host;
 use crate::writing::{Destination, write_scripts};
 use clap::ArgMatches;
-use commands::settings_of;
+use commands::{cannot_write, settings_of};
 use explore_commands::{
     Allowed, ExploreOptions, MinimiseOptions, Sameness, Schedules, Scope, Shown, Workers,
     explore_over, to_minimise, to_write,
 };
+use posix_terms::Bytes;
 use std::alloc::{AllocError, Global};
+use std::io::Write;
 use std::thread::Threads;
 
 // `detio explore`, as the command line has it.
@@ -84,13 +86,25 @@ pub(crate) fn run_minimise(host: Host<'_>, matches: &ArgMatches<'_>) -> Result<u
     let sources = open_scripts(host, scripts)?;
     keep_memory(rt.alloc());
     let options = minimise_options(matches);
-    let to_write = to_minimise(rt.alloc(), settings, options, log, sources)?;
+    let mut watch = MinimiseLine::new(rt);
+    let minimised = to_minimise(rt.alloc(), settings, options, log, sources, &mut watch)?;
     let to = Destination {
         host,
         force: matches.get_flag("force"),
         scripts,
     };
-    write_scripts(to, to_write, folder, by_log)
+    match write_scripts(to, minimised.to_write, folder, by_log)? {
+        0 => Ok(taken_printed(host, &minimised.taken)),
+        status => Ok(status),
+    }
+}
+
+// Prints the line that says how much was taken away.
+fn taken_printed(host: Host<'_>, taken: &Bytes) -> u8 {
+    match Output::new(host).write_all(taken.as_slice()) {
+        Ok(()) => 0,
+        Err(_) => cannot_write(&mut Errors::new(host.rt)).unwrap_or(4),
+    }
 }
 
 fn minimise_options(matches: &ArgMatches<'_>) -> MinimiseOptions {

@@ -1,5 +1,5 @@
 use commands::{Phase, WatchesRun};
-use explore_commands::ReportsProgress;
+use explore_commands::{ReportsProgress, WatchesMinimising};
 use posix_terms::PackedRow;
 use std::fs;
 use std::os::unix::fs::FileTypeExt;
@@ -63,6 +63,45 @@ impl ReportsProgress for ProgressLine<'_> {
 
     fn ended(&mut self) {
         self.clear();
+    }
+}
+
+// Says on a terminal how many runs were made to minimise scripts, once a second, in one line.
+#[derive(Drop)]
+pub(crate) struct MinimiseLine<'a> {
+    line: ProgressLine<'a>,
+    runs: u64,
+    // How many lines are left.
+    lines: usize,
+}
+
+impl<'a> MinimiseLine<'a> {
+    pub(crate) fn new(rt: &'a HostRuntime) -> MinimiseLine<'a> {
+        MinimiseLine {
+            line: ProgressLine::new(rt),
+            runs: 0,
+            lines: 0,
+        }
+    }
+}
+
+impl WatchesMinimising for MinimiseLine<'_> {
+    fn ran(&mut self) {
+        self.runs = self.runs.saturating_add(1);
+        let Some(passed) = self.line.due() else {
+            return;
+        };
+        let (runs, lines) = (self.runs, self.lines);
+        let rate = runs / passed.as_secs().max(1);
+        let _ = eprint!(self.line.rt; "\r{runs} runs, {lines} lines left, {rate} a second\u{1b}[K");
+    }
+
+    fn kept(&mut self, lines: usize) {
+        self.lines = lines;
+    }
+
+    fn ended(&mut self) {
+        self.line.clear();
     }
 }
 

@@ -7,7 +7,8 @@
 //! [`ScriptsToWrite`], the texts of scripts and the log of their plain run: [`to_write`] gives
 //! those of scripts with the delays of the first case, [`to_write_case`] those of scripts with one
 //! outcome replaced, and [`to_minimise`] what is left of scripts that fail once all lines and
-//! threads are gone that the failure does not need. All read their
+//! threads are gone that the failure does not need, and the line that says how much went
+//! ([`MinimisedScripts`]). All read their
 //! [`Source`](command_texts::Source)s. Bad scripts, bad logs and lack of memory are faults that are
 //! printed; only an error of the writer `errors` is returned.
 #![tactic(auto)]
@@ -27,6 +28,6 @@ pub use explore::{ExploreOptions, explore_over};
 pub use explore_texts::{Allowed, Schedules, Shown};
 pub use explorer::{ReportsProgress, Workers};
 pub use faults::{FaultOptions, MOST_FILLED, faults_over};
-pub use minimise::{MinimiseOptions, to_minimise};
-pub use minimiser::{Sameness, Scope};
+pub use minimise::{MinimiseOptions, MinimisedScripts, to_minimise};
+pub use minimiser::{Sameness, Scope, WatchesMinimising};
 pub use writing::{ScriptsToWrite, to_write};

@@ -1,4 +1,5 @@
 pub mod Parts
+pub mod Amounts
 pub mod Reductions
 pub mod Targets
 pub mod Failing

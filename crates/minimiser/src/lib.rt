@@ -10,6 +10,8 @@
 //! would do. By a [`Scope`] it takes away delays alone. A [`Reduction`] is what is kept: its
 //! [`texts`](Reduction::texts), their [`outcomes`](Reduction::outcomes), and the
 //! [numbers](Reduction::place) that a place has there. A [`MinimiseFault`] says why there is none.
+//! [`measure`] counts what there is of texts, before and after. Whoever [`WatchesMinimising`] hears of
+//! each run.
 //!
 //! A text of what is kept is lines of the text that was given, in their order, each with its line
 //! feed, and `work N` with a lesser N in place of a delay that was made shorter ([`Part`]). So it is
@@ -18,7 +20,7 @@
 //!
 //! ```rust
 //! use explorer::Trial;
-//! use minimiser::{Came, Sameness, Scope, find_target, minimised};
+//! use minimiser::{Came, Sameness, Scope, Unwatched, find_target, minimised};
 //! use posix_terms::{Bytes, Errno, Outcomes, Settings};
 //!
 //! // Thread 0 looks whether the file is there, and is late to make it.
@@ -45,13 +47,14 @@
 //! let target = find_target(alloc, trial, Sameness::Error)?.expect(&rt, "line 6 of thread 0");
 //! assert!(rt; target.place.call == 6 && target.place.line == 7);
 //! assert!(rt; target.came == Came::Error(Some(Errno::EEXIST)));
-//! let kept = minimised(alloc, trial, &target, Scope::Everything)?;
+//! let kept = minimised(alloc, trial, &target, Scope::Everything, &mut Unwatched)?;
 //! let small = kept.texts(alloc, &texts)?;
 //! assert!(rt; small[0].as_slice() == b"work 1\nopen /a w create excl\n#= not fail\n".as_slice());
 //! assert!(rt; small[1].as_slice() == b"open /a w create excl\n".as_slice());
 //! ```
 #![tactic(auto)]
 
+mod amounts;
 mod delays;
 mod fault;
 mod finding;
@@ -61,7 +64,9 @@ mod reduction;
 mod scope;
 mod step;
 mod target;
+mod watching;
 
+pub use amounts::{Amounts, measure};
 pub use fault::MinimiseFault;
 pub use finding::find_target;
 pub use minimise::minimised;
@@ -69,3 +74,4 @@ pub use part::Part;
 pub use reduction::Reduction;
 pub use scope::Scope;
 pub use target::{Came, Place, Sameness, Target};
+pub use watching::{Unwatched, WatchesMinimising};

@@ -14,6 +14,7 @@ use crate::reduction::Reduction;
 use crate::scope::Scope;
 use crate::step::Removal;
 use crate::target::Target;
+use crate::watching::WatchesMinimising;
 use explorer::Trial;
 use std::alloc::{AllocError, Global};
 
@@ -21,27 +22,30 @@ use std::alloc::{AllocError, Global};
 /// their plain run. Threads, delays and lines go first in blocks, each of half of them, then of a
 /// quarter, and so on, and each delay that is left is made shorter; then one at a time, until none
 /// is left to take and no delay is left that may be halved. What is kept is minimal by the
-/// contract: it fails the same, and no longer without any one of what may be taken. The error is
-/// [`MinimiseFault::NotFailing`] where the scripts do not fail so to begin with.
-pub fn minimised(
+/// contract: it fails the same, and no longer without any one of what may be taken. `watch` hears of
+/// each run, and of what is kept. The error is [`MinimiseFault::NotFailing`] where the scripts do not
+/// fail so to begin with.
+pub fn minimised<P: WatchesMinimising>(
     alloc: Global,
     trial: Trial<'_>,
     target: &Target,
     scope: Scope,
+    watch: &mut P,
 ) -> Result<Reduction, MinimiseFault>
     ensures ok { IfOk result (IsMinimal scope (subject trial.entry) target.now) }
     ensures err { IfErr result (IsFault (subject trial.entry) target.now) }
 {
     let mut kept = Reduction::all(alloc, trial.texts)?;
-    let failing = fails(alloc, trial, target, &kept)?;
+    let failing = fails(alloc, trial, target, &kept, watch)?;
     if !failing {
         return Err(MinimiseFault::NotFailing);
     }
+    watch.kept(kept.line_count());
     let delays = delays(alloc, trial.texts)?;
-    take_first(alloc, trial, target, scope, &mut kept, &delays)?;
+    take_first(alloc, trial, target, scope, &mut kept, &delays, watch)?;
     loop {
         let steps = steps_of(alloc, trial, scope, &kept, &delays)?;
-        let taken = take(alloc, trial, target, scope, &mut kept, &steps)?;
+        let taken = take(alloc, trial, target, scope, &mut kept, &steps, watch)?;
         if !taken {
             return Ok(kept);
         }
@@ -49,13 +53,14 @@ pub fn minimised(
 }
 
 // Takes what goes in blocks, and makes what delays are left as short as they can be.
-fn take_first(
+fn take_first<P: WatchesMinimising>(
     alloc: Global,
     trial: Trial<'_>,
     target: &Target,
     scope: Scope,
     kept: &mut Reduction,
     delays: &[Removal],
+    watch: &mut P,
 ) -> Result<(), AllocError>
     requires fails { FailsIn (subject trial) target.now kept.old }
     requires stands { Stands scope (subject trial).texts kept.old }
@@ -63,18 +68,19 @@ fn take_first(
     ensures fails { OnOk result (FailsIn (subject trial.entry) target.now kept.new) }
     ensures stands { OnOk result (Stands scope (subject trial.entry).texts kept.new) }
 {
-    take_in_blocks(alloc, trial, target, scope, kept, delays)?;
-    shorten_all(alloc, trial, target, scope, kept, delays)
+    take_in_blocks(alloc, trial, target, scope, kept, delays, watch)?;
+    shorten_all(alloc, trial, target, scope, kept, delays, watch)
 }
 
 // Takes what goes in blocks: threads, delays, then lines.
-fn take_in_blocks(
+fn take_in_blocks<P: WatchesMinimising>(
     alloc: Global,
     trial: Trial<'_>,
     target: &Target,
     scope: Scope,
     kept: &mut Reduction,
     delays: &[Removal],
+    watch: &mut P,
 ) -> Result<(), AllocError>
     requires fails { FailsIn (subject trial) target.now kept.old }
     requires stands { Stands scope (subject trial).texts kept.old }
@@ -85,23 +91,24 @@ fn take_in_blocks(
     match scope {
         Scope::Everything => {
             let threads = kept.thread_steps(alloc)?;
-            take_blocks(alloc, trial, target, scope, kept, &threads)?;
-            take_blocks(alloc, trial, target, scope, kept, delays)?;
+            take_blocks(alloc, trial, target, scope, kept, &threads, watch)?;
+            take_blocks(alloc, trial, target, scope, kept, delays, watch)?;
             let lines = kept.line_steps(alloc)?;
-            take_blocks(alloc, trial, target, scope, kept, &lines)
+            take_blocks(alloc, trial, target, scope, kept, &lines, watch)
         }
-        Scope::Schedule => take_blocks(alloc, trial, target, scope, kept, delays),
+        Scope::Schedule => take_blocks(alloc, trial, target, scope, kept, delays, watch),
     }
 }
 
 // Makes each of these delays that is kept as short as it can be.
-fn shorten_all(
+fn shorten_all<P: WatchesMinimising>(
     alloc: Global,
     trial: Trial<'_>,
     target: &Target,
     scope: Scope,
     kept: &mut Reduction,
     delays: &[Removal],
+    watch: &mut P,
 ) -> Result<(), AllocError>
     requires fails { FailsIn (subject trial) target.now kept.old }
     requires stands { Stands scope (subject trial).texts kept.old }
@@ -110,19 +117,20 @@ fn shorten_all(
     ensures stands { OnOk result (Stands scope (subject trial.entry).texts kept.new) }
 {
     for delay in delays {
-        shorten(alloc, trial, target, scope, kept, *delay)?;
+        shorten(alloc, trial, target, scope, kept, *delay, watch)?;
     }
     Ok(())
 }
 
 // Makes a delay that is kept as short as it can be, by halving of what it may be.
-fn shorten(
+fn shorten<P: WatchesMinimising>(
     alloc: Global,
     trial: Trial<'_>,
     target: &Target,
     scope: Scope,
     kept: &mut Reduction,
     delay: Removal,
+    watch: &mut P,
 ) -> Result<(), AllocError>
     requires fails { FailsIn (subject trial) target.now kept.old }
     requires stands { Stands scope (subject trial).texts kept.old }
@@ -142,7 +150,7 @@ fn shorten(
             line,
             units,
         };
-        if is_taken(alloc, trial, target, scope, kept, step)? {
+        if is_taken(alloc, trial, target, scope, kept, step, watch)? {
             high = units;
         } else {
             low = units + 1;
@@ -152,13 +160,14 @@ fn shorten(
 }
 
 // Takes a step, if the failure is the same after it, and returns whether it was taken.
-fn is_taken(
+fn is_taken<P: WatchesMinimising>(
     alloc: Global,
     trial: Trial<'_>,
     target: &Target,
     scope: Scope,
     kept: &mut Reduction,
     step: Removal,
+    watch: &mut P,
 ) -> Result<bool, AllocError>
     requires fails { FailsIn (subject trial) target.now kept.old }
     requires stands { Stands scope (subject trial).texts kept.old }
@@ -166,7 +175,7 @@ fn is_taken(
     ensures fails { OnOk result (FailsIn (subject trial.entry) target.now kept.new) }
     ensures stands { OnOk result (Stands scope (subject trial.entry).texts kept.new) }
 {
-    match after(alloc, trial, target, kept, step)? {
+    match after(alloc, trial, target, kept, step, watch)? {
         Some(rest) => {
             *kept = rest;
             Ok(true)
@@ -221,13 +230,14 @@ fn removals_of(
 
 // Takes blocks of these steps, each if the failure is the same after it: halves of them, then
 // quarters, and so on.
-fn take_blocks(
+fn take_blocks<P: WatchesMinimising>(
     alloc: Global,
     trial: Trial<'_>,
     target: &Target,
     scope: Scope,
     kept: &mut Reduction,
     steps: &[Removal],
+    watch: &mut P,
 ) -> Result<(), AllocError>
     requires fails { FailsIn (subject trial) target.now kept.old }
     requires stands { Stands scope (subject trial).texts kept.old }
@@ -238,13 +248,13 @@ fn take_blocks(
     let mut size = steps.len();
     while size > 1 {
         size -= size / 2;
-        take_blocks_of(alloc, trial, target, scope, kept, steps, size)?;
+        take_blocks_of(alloc, trial, target, scope, kept, steps, size, watch)?;
     }
     Ok(())
 }
 
 // Takes blocks of so many of these steps, one after another.
-fn take_blocks_of(
+fn take_blocks_of<P: WatchesMinimising>(
     alloc: Global,
     trial: Trial<'_>,
     target: &Target,
@@ -252,6 +262,7 @@ fn take_blocks_of(
     kept: &mut Reduction,
     steps: &[Removal],
     size: usize,
+    watch: &mut P,
 ) -> Result<(), AllocError>
     requires some { 0 < size }
     requires fails { FailsIn (subject trial) target.now kept.old }
@@ -263,7 +274,7 @@ fn take_blocks_of(
     let mut from = 0;
     while from < steps.len() {
         let end = from + size.min(steps.len() - from);
-        let rest = after_block(alloc, trial, target, kept, &steps[from..end])?;
+        let rest = after_block(alloc, trial, target, kept, &steps[from..end], watch)?;
         if let Some(rest) = rest {
             *kept = rest;
         }
@@ -274,12 +285,13 @@ fn take_blocks_of(
 
 // What is kept after these steps together, if they take something away and the failure is the same
 // after them.
-fn after_block(
+fn after_block<P: WatchesMinimising>(
     alloc: Global,
     trial: Trial<'_>,
     target: &Target,
     kept: &Reduction,
     block: &[Removal],
+    watch: &mut P,
 ) -> Result<Option<Reduction>, AllocError>
     ensures { IfOk result (λ rest. IfSome rest (λ rest.
         (rest ≡ after_all kept.now block.now)
@@ -289,20 +301,22 @@ fn after_block(
         return Ok(None);
     }
     let less = kept.after_all(alloc, block)?;
-    if !fails(alloc, trial, target, &less)? {
+    if !fails(alloc, trial, target, &less, watch)? {
         return Ok(None);
     }
+    watch.kept(less.line_count());
     Ok(Some(less))
 }
 
 // Takes these steps, each if the failure is the same after it, and returns whether one was taken.
-fn take(
+fn take<P: WatchesMinimising>(
     alloc: Global,
     trial: Trial<'_>,
     target: &Target,
     scope: Scope,
     kept: &mut Reduction,
     steps: &[Removal],
+    watch: &mut P,
 ) -> Result<bool, AllocError>
     requires fails { FailsIn (subject trial) target.now kept.old }
     requires stands { Stands scope (subject trial).texts kept.old }
@@ -316,7 +330,7 @@ fn take(
 {
     let mut taken = false;
     for step in steps {
-        let rest = after(alloc, trial, target, kept, *step)?;
+        let rest = after(alloc, trial, target, kept, *step, watch)?;
         if let Some(rest) = rest {
             *kept = rest;
             taken = true;
@@ -326,12 +340,13 @@ fn take(
 }
 
 // What is kept after a step, if that takes something away and the failure is the same after it.
-fn after(
+fn after<P: WatchesMinimising>(
     alloc: Global,
     trial: Trial<'_>,
     target: &Target,
     kept: &Reduction,
     step: Removal,
+    watch: &mut P,
 ) -> Result<Option<Reduction>, AllocError>
     ensures { IfOk result (λ rest.
         MatchOption rest
@@ -343,18 +358,20 @@ fn after(
         return Ok(None);
     }
     let rest = kept.without(alloc, step)?;
-    if !fails(alloc, trial, target, &rest)? {
+    if !fails(alloc, trial, target, &rest, watch)? {
         return Ok(None);
     }
+    watch.kept(rest.line_count());
     Ok(Some(rest))
 }
 
 // Whether the failure is the same in the run of what is kept.
-fn fails(
+fn fails<P: WatchesMinimising>(
     alloc: Global,
     trial: Trial<'_>,
     target: &Target,
     kept: &Reduction,
+    watch: &mut P,
 ) -> Result<bool, AllocError>
     ensures { IfOk result (λ fails.
         IsTrue fails ↔ FailsIn (subject trial.entry) target.now kept.now) }
@@ -369,6 +386,7 @@ fn fails(
         outcomes: &outcomes,
         settings: trial.settings,
     };
+    watch.ran();
     match find_target(alloc, rest, target.came.sameness())? {
         Some(found) => Ok(found.is(place, &target.came)),
         None => Ok(false),

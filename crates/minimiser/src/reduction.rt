@@ -92,6 +92,17 @@ impl Reduction {
         Ok(kept)
     }
 
+    // How many lines are kept.
+    pub(crate) fn line_count(&self) -> usize {
+        let mut count = 0_usize;
+        for thread in &self.threads {
+            if let Some(lines) = thread {
+                count = count.saturating_add(lines_kept(&lines.kept));
+            }
+        }
+        count
+    }
+
     /// The place with the numbers that its thread and lines have in what is kept, if they are.
     pub fn place(&self, place: Place) -> Option<Place>
         ensures { result ≡ place_now self.now place }

@@ -7,7 +7,7 @@ use Rattle.explore_commands.specs.Minimises.{NothingMinimises, SubjectMinimises,
 use Rattle.explore_commands.proofs.minimise.trial_minimised.Goals as goal
 
 pub returns-in_default : goal.returns-in_default
-returns-in_default c =
+returns-in_default g c =
     let tried = subject c.args.trial in
     let none : c.in_ok-target.field-0 ≡ None = search rules in
     IfOk-weaker c.nothing_minimised.result (NothingMinimises tried) (SubjectMinimises c.args.options tried)
@@ -19,7 +19,7 @@ returns-in_default c =
     c.nothing_minimised.ensures
 
 pub returns : goal.returns
-returns c =
+returns g c =
     let tried = subject c.args.trial in
     let target = c.in-Some.target in
     IfOk-weaker c.target_minimised.result (TargetMinimises c.args.options.scope tried target)

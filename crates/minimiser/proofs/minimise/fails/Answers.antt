@@ -5,7 +5,7 @@ use Rattle.minimiser.proofs.FailsNow.{fails_by}
 use Rattle.minimiser.proofs.minimise.fails.Goals as goal
 
 pub returns-in-Some-2 : goal.returns-in-Some-2
-returns-in-Some-2 c =
+returns-in-Some-2 g c =
     let given = subject c.args.trial in
     let target = c.args.target.now in
     let kept = c.args.kept.now in

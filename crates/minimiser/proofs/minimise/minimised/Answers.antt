@@ -9,7 +9,7 @@ use Rattle.minimiser.proofs.minimise.minimised.Goals as goal
 
 -- it would fail where all lines are kept
 pub returns-then-not-failing-clause-err : goal.returns-then-not-failing-clause-err
-returns-then-not-failing-clause-err c fails =
+returns-then-not-failing-clause-err g c fails =
     let given = subject c.args.trial in
     let not : c.in_ok-failing.failing ≡ false = c.if-not-failing.true in
     let here = subst (FailsIn given c.args.target.now) (sym c.in_ok-kept.ensures)
@@ -18,14 +18,14 @@ returns-then-not-failing-clause-err c fails =
 
 -- all stands where all lines are kept
 pub take_first-requires-clause-stands : goal.take_first-requires-clause-stands
-take_first-requires-clause-stands c =
+take_first-requires-clause-stands g c =
     let texts = (subject c.args.trial).texts in
     subst (Stands c.args.scope texts) (sym c.in_ok-kept.ensures)
     (stands_at_first c.args.scope texts)
 
 -- no step was taken, so each is refused
 pub returns-then-not-taken-clause-ok : goal.returns-then-not-taken-clause-ok
-returns-then-not-taken-clause-ok c =
+returns-then-not-taken-clause-ok g c =
     let given = subject c.args.trial in
     let target = c.args.target.now in
     let kept = c.loop-delays.kept in

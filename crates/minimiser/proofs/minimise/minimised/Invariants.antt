@@ -6,11 +6,11 @@ use Rattle.minimiser.proofs.minimise.minimised.Given as goal
 
 -- the expectation fails in what is kept, and what may not be taken away stands
 abbrev pub invariant-loop-delays : goal.invariant-loop-delays
-invariant-loop-delays l = record {
+invariant-loop-delays g l = record {
   fails : FailsIn (subject l.trial) l.target l.kept;
   stands : Stands l.fn.scope (subject l.trial).texts l.kept;
 }
 
 -- less is kept after each round
 abbrev pub decreases-loop-delays : goal.decreases-loop-delays
-decreases-loop-delays l = size_of l.kept
+decreases-loop-delays g l = size_of l.kept

@@ -13,7 +13,7 @@ use Rattle.minimiser.proofs.minimise.take.Goals as goal
 use Rattle.minimiser.proofs.minimise.take.Goals.{in-Some, in_default}
 
 pub loop-step-preserved : goal.loop-step-preserved
-loop-step-preserved c =
+loop-step-preserved g c =
     let given = subject c.args.trial in
     let target = c.args.target.now in
     let scope = c.args.scope in
@@ -52,7 +52,7 @@ loop-step-preserved c =
     ]
 
 pub returns-clause-none : goal.returns-clause-none
-returns-clause-none c not =
+returns-clause-none g c not =
     let refused = IsRefused (subject c.args.trial) c.args.target.now c.args.kept.now in
     let none = c.loop-step.invariant.round.none not in
     let all = take_all c.loop-step.step-index c.args.steps.now c.loop-step-test.false in

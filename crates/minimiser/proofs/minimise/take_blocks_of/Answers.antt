@@ -6,7 +6,7 @@ use Rattle.minimiser.proofs.Standing.{stands_after_all}
 use Rattle.minimiser.proofs.minimise.take_blocks_of.Goals as goal
 
 pub loop-from-preserved-in-Some : goal.loop-from-preserved-in-Some
-loop-from-preserved-in-Some c =
+loop-from-preserved-in-Some g c =
     let texts = (subject c.args.trial).texts in
     let from = c.loop-from.from in
     let rest = drop from c.args.steps.now in

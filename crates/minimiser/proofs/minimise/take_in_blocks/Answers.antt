@@ -6,7 +6,7 @@ use Rattle.minimiser.proofs.minimise.take_in_blocks.Goals as goal
 
 pub take_blocks-requires-in-Schedule-clause-allowed :
     goal.take_blocks-requires-in-Schedule-clause-allowed
-take_blocks-requires-in-Schedule-clause-allowed c =
+take_blocks-requires-in-Schedule-clause-allowed g c =
     let texts = (subject c.args.trial).texts in
     subst (AreAllowed c.args.scope texts) (sym c.requires.delays)
     (delays_allowed c.args.scope texts)
