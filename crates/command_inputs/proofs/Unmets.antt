@@ -1,7 +1,7 @@
 -- The replies of a thread that are held to what its text expects, and those of all threads.
 use Rattle.std.proofs.Common.{◌≡◌, ◌⊎◌, inl, inr, ℕ, zero, suc, ◌+◌, ◌<◌, ◌≤◌, List, [], ◌∷◌, All}
 use Rattle.std.proofs.Common.{length, map, take, slice_get, get_or, Option, Some, None, Ok, refl}
-use Rattle.std.proofs.Common.{sym, subst, arith}
+use Rattle.std.proofs.Common.{ap, sym, subst, arith}
 use Rattle.std.proofs.lemmas.List.{length-map, take_all}
 use Rattle.std.proofs.lemmas.List.Elements.{All-more}
 use Rattle.std.proofs.lemmas.Option.{get_or_from_slice_get, slice_get_read, slice_get_within}
@@ -21,6 +21,7 @@ use Rattle.expectations.specs.declared.expected.Expectation.{Expectation}
 use Rattle.expectations.specs.declared.unmet.Unmet.{Unmet}
 use Rattle.command_texts.specs.Expecting.{unmet_line}
 use Rattle.command_inputs.specs.Expects.{IsAsExpected, IsUnmetLine, calls_seen}
+use Rattle.command_inputs.specs.declared.expecting.UnmetLine.{UnmetLine}
 
 -- a call takes a reply of its own
 one_more : (next : Option ScriptState) (reply : Reply) (others : ScriptState → List (ℕ × Reply))
@@ -50,19 +51,23 @@ row_within script expectations rows first is =
       length-map rows (λ (row : Row). row.reply),
     )
 
+abbrev line_with : ℕ → ℕ → List ℕ → UnmetLine
+line_with thread line text = record { thread = thread; line = line; text = text }
+
 -- the line of the first unmet expectation
 pub line_here : (number : ℕ) (text : List ℕ) (rows : List Row) (script : List Line)
     (expectations : List Expectation) (first : Unmet) (expectation : Expectation) (row : Row)
-    (line : List ℕ)
+    (says : List ℕ)
     → script_of text ≡ Ok script
     → AreExpectations (lines_of text) expectations
     → IsFirstUnmet expectations (calls_seen script rows) first
     → expectation ≡ get_or expectations first.expectation expectation
     → row ≡ get_or rows first.row row
-    → line ≡ unmet_line number expectation row.reply
-    → IsUnmetLine number (text, rows) line
-line_here number text rows script expectations first expectation row line is_script are is_first
-    wanted came says =
+    → says ≡ unmet_line number expectation row.reply
+    → IsUnmetLine number (text, rows)
+    (record { thread = number; line = expectation.line; text = says })
+line_here number text rows script expectations first expectation row says is_script are is_first
+    wanted came is =
     let here = is_first.here in
     record {
       script = script;
@@ -76,7 +81,8 @@ line_here number text rows script expectations first expectation row line is_scr
       row = row;
       came = slice_get_read rows (length rows) first.row row refl
           (row_within script expectations rows first is_first) came;
-      says = says;
+      says = ap
+          (line_with number expectation.line) is;
     }
 
 -- ---- all threads

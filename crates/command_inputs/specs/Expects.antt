@@ -28,6 +28,7 @@ use Rattle.run_views.specs.Rows.{IsViewed}
 use Rattle.answered_calls.specs.Answered.{answered_calls}
 use Rattle.json_views.specs.Ends.{run_json}
 use Rattle.stop_reasons.specs.Reasons.{IsReason}
+use Rattle.command_inputs.specs.declared.expecting.UnmetLine.{UnmetLine}
 use Rattle.command_inputs.specs.declared.settings.RunOptions.{RunOptions}
 use Rattle.command_inputs.specs.declared.running.ToRun.{ToRun}
 use Rattle.command_inputs.specs.declared.running.ToRun.TheVariants as runs
@@ -82,7 +83,7 @@ pub record IsAsExpected (thread : List ℕ × List Row) : Type 0 where
 
 -- this line is of the first that is not, where the thread has this number: the reply of a row, and
 -- the expectation that it does not meet
-pub record IsUnmetLine (number : ℕ) (thread : List ℕ × List Row) (line : List ℕ) : Type 0 where
+pub record IsUnmetLine (number : ℕ) (thread : List ℕ × List Row) (line : UnmetLine) : Type 0 where
   pub script : List Line
   pub expectations : List Expectation
   pub expects : Expects thread.0 script expectations
@@ -92,10 +93,14 @@ pub record IsUnmetLine (number : ℕ) (thread : List ℕ × List Row) (line : Li
   pub wanted : slice_get expectations first.expectation ≡ Some expectation
   pub row : Row
   pub came : slice_get thread.1 first.row ≡ Some row
-  pub says : line ≡ unmet_line number expectation row.reply
+  pub says : line ≡ record {
+    thread = number;
+    line = expectation.line;
+    text = unmet_line number expectation row.reply;
+  }
 
 -- this line is of the first thread that saw another reply than its text expects
-pub record IsFirstUnmetLine (threads : List (List ℕ × List Row)) (line : List ℕ) : Type 0 where
+pub record IsFirstUnmetLine (threads : List (List ℕ × List Row)) (line : UnmetLine) : Type 0 where
   pub number : ℕ
   pub before : All IsAsExpected (take number threads)
   pub thread : List ℕ × List Row
@@ -107,23 +112,23 @@ abbrev pub HeldShows : Bool → List (List ℕ × List Row) → Printed → Prin
 HeldShows false threads run printed = printed ≡ run
 HeldShows true threads run printed =
     (All IsAsExpected threads × (printed ≡ run))
-    ⊎ ((line : List ℕ) × IsFirstUnmetLine threads line × (printed ≡ with_unmet run line))
+    ⊎ ((line : UnmetLine) × IsFirstUnmetLine threads line × (printed ≡ with_unmet run line.text))
 
 -- the line of the first reply that is not as the texts expect, if that is asked and there is one
-abbrev pub IsUnmet : Bool → List (List ℕ × List Row) → Option (List ℕ) → Type 0
+abbrev pub IsUnmet : Bool → List (List ℕ × List Row) → Option UnmetLine → Type 0
 IsUnmet false threads line = line ≡ None
 IsUnmet true threads None = All IsAsExpected threads
 IsUnmet true threads (Some line) = IsFirstUnmetLine threads line
 
--- a line without its line feed
-abbrev pub without_feed : List ℕ → List ℕ
-without_feed line = take (length line - 1) line
+-- the text of a line without its line feed
+abbrev pub without_feed : UnmetLine → List ℕ
+without_feed line = take (length line.text - 1) line.text
 
 -- what is printed in JSON of a run of the scripts of these texts, with these rows and granted turns
 abbrev pub JsonShows : Bool → List (List ℕ) → List (List Row) → List HistoryRow → Option Stop
     → Printed → Type 0
 JsonShows expect texts transcripts rows stop printed =
-    (line : Option (List ℕ)) × IsUnmet expect (zip texts transcripts) line
+    (line : Option UnmetLine) × IsUnmet expect (zip texts transcripts) line
     × (printed
     ≡ run_json (answered_calls 0 texts rows transcripts) stop (option_map without_feed line))
 

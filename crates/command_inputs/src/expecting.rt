@@ -16,6 +16,27 @@ use std::alloc::{AllocError, Global};
 use stop_reasons::{StoppedRun, stop_reason};
 use thread_scripts::parse;
 
+/// The line of a reply that is not as expected.
+#[derive(Debug, Drop)]
+pub struct UnmetLine {
+    /// The number of the thread, from 0.
+    pub thread: usize,
+    /// The number of the expectation's line in the text of the thread, from 1.
+    pub line: usize,
+    /// What is printed: thread, line of the call, what is wanted and what came, and a line feed.
+    pub text: Bytes,
+}
+
+impl UnmetLine {
+    /// The text without its line feed.
+    pub fn without_feed(&self) -> &[u8]
+        ensures { result.now ≡ without_feed self.now }
+    {
+        let text = self.text.as_slice();
+        &text[..text.len().saturating_sub(1)]
+    }
+}
+
 /// What is to be printed for a run of the scripts of these texts: its transcripts, in the view that
 /// is asked, and how it ended and, if that is asked, the first reply that is not as they expect.
 /// The rows are the granted turns of the run, in their order, and the log is that from which its
@@ -82,7 +103,7 @@ fn view_held(
         return Ok(run);
     }
     match first_unmet_line(alloc, texts, transcripts.threads())? {
-        Some(line) => with_unmet(run, &line),
+        Some(line) => with_unmet(run, &line.text),
         None => Ok(run),
     }
 }
@@ -100,7 +121,7 @@ fn json_held(
 {
     let calls = answered_calls(alloc, texts, transcripts, rows)?;
     match unmet_if_asked(alloc, expect, texts, transcripts)? {
-        Some(line) => run_json(alloc, &calls, stop, Some(without_feed(line.as_slice()))),
+        Some(line) => run_json(alloc, &calls, stop, Some(line.without_feed())),
         None => run_json(alloc, &calls, stop, None),
     }
 }
@@ -111,7 +132,7 @@ fn unmet_if_asked(
     expect: bool,
     texts: &[Bytes],
     transcripts: &Transcripts,
-) -> Result<Option<Bytes>, AllocError>
+) -> Result<Option<UnmetLine>, AllocError>
     ensures { IfOk result (IsUnmet expect (zip texts.now transcripts.now)) }
 {
     if !expect {
@@ -120,19 +141,12 @@ fn unmet_if_asked(
     first_unmet_line(alloc, texts, transcripts.threads())
 }
 
-// A line without its line feed.
-fn without_feed(line: &[u8]) -> &[u8]
-    ensures { result.now ≡ without_feed line.now }
-{
-    &line[..line.len().saturating_sub(1)]
-}
-
 /// The line of the first thread that saw something else than its text expects, if there is one.
 pub fn first_unmet_line(
     alloc: Global,
     texts: &[Bytes],
     transcripts: &[Transcript],
-) -> Result<Option<Bytes>, AllocError>
+) -> Result<Option<UnmetLine>, AllocError>
     ensures { IfOk result (λ line.
         MatchOption line
         (All IsAsExpected (zip texts.now transcripts.now))
@@ -156,7 +170,7 @@ fn thread_unmet_line(
     thread: usize,
     text: &[u8],
     rows: &[Row],
-) -> Result<Option<Bytes>, AllocError>
+) -> Result<Option<UnmetLine>, AllocError>
     ensures { IfOk result (λ line.
         MatchOption line
         (IsAsExpected (text.now, rows.now))
@@ -175,6 +189,11 @@ fn thread_unmet_line(
     let Some(Unmet { row, expectation }) = first else {
         return Ok(None);
     };
-    let line = unmet_line(alloc, thread, &expectations[expectation], &rows[row].reply)?;
-    Ok(Some(line))
+    let expectation = &expectations[expectation];
+    let text = unmet_line(alloc, thread, expectation, &rows[row].reply)?;
+    Ok(Some(UnmetLine {
+        thread,
+        line: expectation.line,
+        text,
+    }))
 }

@@ -18,7 +18,7 @@ mod running;
 mod settings;
 mod sources;
 
-pub use expecting::{first_unmet_line, run_shown};
+pub use expecting::{UnmetLine, first_unmet_line, run_shown};
 pub use faults::{bad_settings, needs_scripts, no_log, threads_line};
 pub use log_texts::{ToReplay, to_replay};
 pub use outcomes::no_outcomes;

@@ -66,14 +66,17 @@ not looked at further.
 Of a script without a bad line there may be warnings, and nothing else is printed:
   PATH:LINE:COLUMN: warning: no line jumps to the label NAME
   PATH:LINE:COLUMN: warning: this line is never reached
+  PATH:LINE:COLUMN: warning: CALL refuses this path with ENAME: WHY
   PATH:LINE:COLUMN: warning: descriptor N is named by more than one script: PATH, PATH
-A line is reached by the jumps alone, whatever registers hold. Descriptors are those that calls name
-by a number: all scripts of a run share one table, so the same number in two scripts means the same
-descriptor. That may be what is meant; else the script keeps the number that a call returned, in r0,
-and names it by a register.
+A line is reached by the jumps alone, whatever registers hold. A path is refused for its form, whatever
+the tree in memory holds: where it is empty, has more than 255 bytes or a slash at its end, or a name
+that is . or .., or has more than 14 bytes. Paths of the host are not looked at. Descriptors are those
+that calls name by a number: all scripts of a run share one table, so the same number in two scripts
+means the same descriptor. That may be what is meant; else the script keeps the number that a call
+returned, in r0, and names it by a register.
 
 With --json each of these lines is an object instead, as
-  {\"column\":7,\"expected\":\"a path\",\"found\":\"the line ends here\",\"kind\":\"error\",\"line\":2,\"path\":\"a.script\"}
+  {\"column\":7,\"expected\":\"a path\",\"found\":\"the line ends here\",\"kind\":\"error\",\"line\":2,\"path\":\"a\"}
 on one line. Of a warning the kind is warning, and in place of what is expected and found it has a message.
 So has an error of a whole script, whose line and column are null.
 
@@ -235,14 +238,16 @@ detio plain --help.
 The first line says how the scripts end as they are, without delays:
   as they are END
 END has the words of the last line of detio plain. Runs in which the threads saw the same calls and
-replies and that ended alike are one group. A line follows for each group, in the order of the first
-seeds:
+replies, but for the numbers of descriptors, and that ended alike are one group. With --raw those
+numbers count too. A line follows for each group, in the order of the first seeds; groups in which
+the same expectation is not met stand together:
   seed FIRST runs COUNT END same
   seed FIRST runs COUNT END ends otherwise
   seed FIRST runs COUNT END differs THREAD ROW BEFORE -> NOW
 same is what was seen without delays, ends otherwise the same with another END. Else the least
 thread whose rows differ is given, and its first such row, from 0: its call and reply before and
-now, - for no row. Where a reply is not as expected, these lines, and the first one too, go on with
+in the first run of the group, - for no row. Where a reply is not as expected, these lines, and the
+first one too, go on with
   expected THREAD LINE WANTED GOT
 for the least thread, LINE that of the script that was given. The last line is
   runs COUNT groups COUNT failed COUNT stopped COUNT blocked COUNT
@@ -309,6 +314,8 @@ shows that run.",
         MOST,
         ONLY,
         REACH,
+        RAW,
+        JSON,
         FAILED,
         ALLOW_STOPS,
         ALLOW_BLOCKED,
@@ -330,10 +337,11 @@ const FAULTS: Subcommand = Subcommand {
 
 The scripts run as under detio plain, and the calls that go outside take the outcomes of the log, in
 their order and whatever their clocks; the patience and the door cost are the log's. They run once
-as they are, and once for each record of the log and each error that its call can meet at a host
-(fault injection), or each of --errors, in place of the record's outcome. With --short the reads and
-writes of the log also bring fewer bytes: none, one, half, all but one. The lines #= of the scripts
-say what is expected: detio plain --help.
+as they are, and once for each call that took a record and each error that it can meet at a host
+(fault injection), or each of --errors, in place of the record's outcome. A read or a write meets
+other errors at a stream than at a file. Of a call that took several records, since it waited, only
+the last is replaced. With --short the reads and writes of the log also bring fewer bytes: none, one,
+half, all but one. The lines #= of the scripts say what is expected: detio plain --help.
 
 The outcomes after the replaced one come while they answer what is asked. Where a thread asks what
 the log does not answer, --then says what comes: well (what comes of a call that goes well: all bytes
@@ -386,6 +394,7 @@ prints at last
         ERRORS,
         SHORT,
         THEN,
+        JSON,
         FAILED,
         ALLOW_STOPS,
         ALLOW_BLOCKED,
@@ -420,7 +429,9 @@ which gets another wrong number.
 
 What is left is written to new files, one for each thread that is left: their paths are printed, and
 detio plain, record and replay take them. All are written or none; with --force they replace those that
-are there, but none of the scripts.
+are there, but none of the scripts. The last line says how much was taken away, and of how much: threads,
+lines, the lines of work among these, and the units of work:
+  taken away threads N of N lines N of N delays N of N units N of N
 
 Without --log nothing comes from outside, as under detio plain. With --log the calls that go outside
 take the outcomes of that log, in their order and whatever their clocks, and the patience and the
@@ -440,6 +451,7 @@ Exit statuses:
 prints
   less/0.script
   less/1.script
+  taken away threads 0 of 2 lines 3 of 6 delays 1 of 1 units 9 of 9
 and
   cat less/1.script
 prints
@@ -1202,6 +1214,12 @@ const THEN: Argument = Argument {
         Rule::Among(&["stop", "fail", "well"]),
         Rule::Default("well"),
     ],
+};
+
+const RAW: Argument = Argument {
+    id: "raw",
+    help: "Runs also differ where only the numbers of descriptors do",
+    rules: &[Rule::Flag],
 };
 
 const FAILED: Argument = Argument {

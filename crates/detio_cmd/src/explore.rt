@@ -134,6 +134,7 @@ pub(crate) fn shown(matches: &ArgMatches<'_>) -> Shown {
             blocked: matches.get_flag("allow-blocked"),
         },
         failed_only: matches.get_flag("failed"),
+        json: matches.get_flag("json"),
     }
 }
 
@@ -157,6 +158,7 @@ fn options(matches: &ArgMatches<'_>) -> Option<ExploreOptions> {
         first,
         end,
         reach: matches.get_one::<u32>("reach")?,
+        raw: matches.get_flag("raw"),
         shown: shown(matches),
     })
 }

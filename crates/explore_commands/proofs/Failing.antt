@@ -1,5 +1,5 @@
 -- What is found of cases, one after the other, and how many are counted.
-use Rattle.std.proofs.Common.{◌≡◌, ◌≤◌, ◌<◌, ◌+◌, ℕ, suc, Bool, true, false, List, [], ◌∷◌, ◌++◌, Option}
+use Rattle.std.proofs.Common.{◌≡◌, ◌≤◌, ◌<◌, ◌+◌, ℕ, suc, Bool, true, false, List, [], ◌∷◌, ◌++◌}
 use Rattle.std.proofs.Common.{Err, Ok, Result, ap, append_assoc, arith, get_or, length, subst, sym}
 use Rattle.std.proofs.lemmas.List.{append-nil, length-append}
 use Rattle.std.proofs.lemmas.List.Sums.{sum_by-cons}
@@ -9,13 +9,14 @@ use Rattle.std.specs.declared.alloc.AllocError.{AllocError}
 use Rattle.explorer.specs.Subject.{Subject}
 use Rattle.explorer.specs.declared.observation.Observation.{Observation}
 use Rattle.fault_injection.specs.declared.cases.FaultCase.{FaultCase}
-use Rattle.fault_injection.specs.declared.filling.Filling.{Filling}
 use Rattle.explore_texts.specs.Found.{counted, tallied}
 use Rattle.explore_texts.specs.Judged.{is_counted}
 use Rattle.explore_texts.specs.declared.judgement.Tally.{Tally}
 use Rattle.explore_commands.specs.Injections.{IsCaseFinding}
 use Rattle.explore_commands.specs.Pushed.{ArePushed}
+use Rattle.explore_commands.specs.declared.faults.FaultOptions.{FaultOptions}
 use Rattle.explore_texts.specs.declared.finding.Finding.{Finding}
+use Rattle.explore_texts.specs.declared.looked.Looked.{Looked}
 
 -- the elements and one more of each
 pub pairs_more : {A B : Type 0} (R : A → B → Type 0) (xs : List A) (ys : List B) (x : A) (y : B)
@@ -30,18 +31,18 @@ at_most true n = omega arith
 at_most false n = omega arith
 
 -- no more cases are counted than there are
-pub cases_below : (filling : Option Filling) (subject : Subject) (before : Observation)
+pub cases_below : (options : FaultOptions) (subject : Subject) (before : Observation) (looked : Looked)
     (cases : List FaultCase) (findings : List Finding)
-    → AllZip (IsCaseFinding filling subject before) cases findings
+    → AllZip (IsCaseFinding options subject before looked) cases findings
     → (tally : Tally) → tallied tally findings ≤ length findings
-cases_below filling subject before [] [] all tally = omega arith
-cases_below filling subject before [] (finding ∷ findings) all tally = elim all [ ]
-cases_below filling subject before (case ∷ cases) [] all tally = elim all [ ]
-cases_below filling subject before (case ∷ cases) (finding ∷ findings) all tally =
+cases_below options subject before looked [] [] all tally = omega arith
+cases_below options subject before looked [] (finding ∷ findings) all tally = elim all [ ]
+cases_below options subject before looked (case ∷ cases) [] all tally = elim all [ ]
+cases_below options subject before looked (case ∷ cases) (finding ∷ findings) all tally =
     let some = sum_by-cons (counted tally) finding findings in
-    let found = all.0.2 in
+    let found = all.0.2.2 in
     let here = at_most (is_counted tally finding.judgement) finding.runs in
-    let rest = cases_below filling subject before cases findings all.1 tally in
+    let rest = cases_below options subject before looked cases findings all.1 tally in
     omega (arith, some, found.count, here, rest)
 
 -- those that were found next are of the next cases

@@ -1,2 +1,3 @@
+pub mod CasesSaid
 pub mod Failing
 pub mod Tried

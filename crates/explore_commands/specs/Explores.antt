@@ -7,6 +7,7 @@ use Rattle.std.specs.List.{AllZip, range_with_len}
 use Rattle.posix_terms.specs.declared.transcript.Settings.{Settings}
 use Rattle.thread_scripts.specs.Faults.{Fault, bad_line, too_long}
 use Rattle.explorer.specs.Cases.{CasesJoin, IsFaultOf}
+use Rattle.explorer.specs.Groups.{runs_of}
 use Rattle.explorer.specs.Subject.{Subject}
 use Rattle.explorer.specs.Runs.{IsFault, Sees}
 use Rattle.explorer.specs.declared.fault.RunFault.{RunFault}
@@ -18,13 +19,18 @@ use Rattle.command_texts.specs.Transcripts.{◌+++◌}
 use Rattle.command_texts.specs.declared.printed.Printed.{Printed}
 use Rattle.machine.specs.declared.stop.Stop.{Stop}
 use Rattle.machine.specs.declared.stop.Stop.TheVariants as stop
-use Rattle.explore_texts.specs.Found.{IsFinding, IsFoundAsIs, explored_printed}
+use Rattle.explore_texts.specs.Alike.{AllJoin}
+use Rattle.explore_texts.specs.Looked.{IsLooked}
+use Rattle.explore_texts.specs.Explored.{explored_printed}
+use Rattle.explore_texts.specs.Findings.{IsFinding, IsFoundAsIs}
 use Rattle.explore_texts.specs.Schedules.{delays_by, end_by}
 use Rattle.command_inputs.specs.Faults.{bad_settings}
 use Rattle.explore_commands.specs.declared.explore.ExploreOptions.{ExploreOptions}
 use Rattle.explore_commands.specs.Scheduled.{AreScheduled}
 use Rattle.explore_commands.specs.Tries.{Tries}
+use Rattle.explore_texts.specs.declared.alike.AlikeRuns.{AlikeRuns}
 use Rattle.explore_texts.specs.declared.finding.Finding.{Finding}
+use Rattle.explore_texts.specs.declared.looked.Looked.{Looked}
 use Rattle.explore_texts.specs.declared.schedule.Schedule.{Schedule}
 use Rattle.explore_commands.specs.declared.scheduling.ToSchedule.{ToSchedule}
 use Rattle.explore_commands.specs.declared.scheduling.ToSchedule.TheVariants as delays
@@ -68,19 +74,28 @@ abbrev pub cases_of : ExploreOptions → Schedule → List ℕ
 cases_of options schedule =
     range_with_len options.first (end_by schedule options.end - options.first)
 
+-- this is printed of these groups of runs, where this was seen and looked at without delays
+pub record GroupsPrint
+    (subject : Subject) (options : ExploreOptions) (schedule : Schedule) (before : Observation)
+    (looked : Looked) (groups : List Group) (printed : Printed) : Type 0 where
+  pub as_is : Finding
+  pub found_as_is : IsFoundAsIs options.shown.json subject.texts before looked as_is
+  pub all : List AlikeRuns
+  pub join : AllJoin options.raw subject.texts groups [] all
+  pub findings : List Finding
+  pub found : AllZip (IsFinding options.shown.json subject schedule before looked) all findings
+  pub says : printed ≡ explored_printed options.shown schedule as_is (runs_of groups) findings
+
 -- this is printed where the runs of all cases were made
 pub record IsExplored
     (subject : Subject) (options : ExploreOptions) (schedule : Schedule) (before : Observation)
     (printed : Printed) : Type 0 where
-  pub as_is : Finding
-  pub found_as_is : IsFoundAsIs subject.texts before as_is
   pub groups : List Group
   pub explores :
       CasesJoin subject (delays_by schedule) [] (cases_of options schedule) groups
-  pub findings : List Finding
-  pub found : AllZip (IsFinding subject schedule before) groups findings
-  pub says : printed
-      ≡ explored_printed options.shown schedule as_is groups findings
+  pub looked : Looked
+  pub is_looked : IsLooked options.raw subject.texts before looked
+  pub print : GroupsPrint subject options schedule before looked groups printed
 
 -- this is printed of the runs with delays, where this was seen in the run without them
 abbrev pub SeenExplores : Subject → ExploreOptions → Schedule → Observation → Printed → Type 0

@@ -1,9 +1,10 @@
 -- Believed: a contract of a command stands on it.
 -- What `detio faults` prints for the log and the scripts that it reads.
-use Rattle.std.specs.Prelude.{◌≡◌, ◌⊎◌, ℕ, List, length}
+use Rattle.std.specs.Prelude.{◌≡◌, ◌⊎◌, ℕ, Bool, true, List, length, if◌then◌else◌}
 use Rattle.std.specs.Prelude.{Option, Some, None}
 use Rattle.std.specs.List.{AllZip}
 use Rattle.call_machine.specs.declared.plain.Plain.{Plain}
+use Rattle.comparator.specs.declared.verdict.Verdict.{Verdict}
 use Rattle.explorer.specs.Observations.{observed}
 use Rattle.explorer.specs.Runs.{IsFault, IsRun}
 use Rattle.explorer.specs.Subject.{Subject}
@@ -17,14 +18,18 @@ use Rattle.fault_injection.specs.declared.cases.Choice.{Choice}
 use Rattle.fault_injection.specs.declared.cases.FaultCase.{FaultCase}
 use Rattle.fault_injection.specs.declared.filling.Filling.{Filling}
 use Rattle.command_texts.specs.declared.printed.Printed.{Printed}
-use Rattle.explore_texts.specs.CaseTexts.{case_text, cases_printed}
+use Rattle.explore_texts.specs.CaseTexts.{case_text}
 use Rattle.explore_texts.specs.CutOffs.{cut_of}
-use Rattle.explore_texts.specs.Found.{IsFound, IsFoundAsIs}
+use Rattle.explore_texts.specs.Explored.{cases_printed}
+use Rattle.explore_texts.specs.Findings.{IsFound, IsFoundAsIs, said_in_json, said_so}
+use Rattle.explore_texts.specs.FoundJson.{fault_value}
+use Rattle.explore_texts.specs.Looked.{IsLooked}
 use Rattle.explore_commands.specs.Explores.{FaultPrints}
 use Rattle.explore_commands.specs.Tries.{ByLogTries}
 use Rattle.explore_commands.specs.declared.faults.FaultOptions.{FaultOptions}
 use Rattle.explore_commands.specs.declared.faults.TheConstants.{MOST_FILLED}
 use Rattle.explore_texts.specs.declared.finding.Finding.{Finding}
+use Rattle.explore_texts.specs.declared.looked.Looked.{Looked}
 use Rattle.explore_commands.specs.declared.trying.ToTry.{ToTry}
 use Rattle.explore_commands.specs.declared.trying.ToTry.TheVariants as tries
 
@@ -40,13 +45,24 @@ abbrev pub SeesCase : Option Filling → Subject → Observation → Type 0
 SeesCase filling subject now =
     (plain : Plain) × RunsCase filling subject plain × (now ≡ observed plain)
 
--- what is found of a case
+-- what is said of the run of a case in which this was seen and looked at
+abbrev pub case_said :
+    Bool → Subject → Observation → FaultCase → Observation → Looked → Verdict → Bool → List ℕ
+case_said json subject before case now looked verdict ends_alike =
+    if json
+    then said_in_json subject.texts before (fault_value subject.outcomes case) 1 now looked
+    (cut_of subject.texts now) verdict ends_alike
+    else said_so subject.texts before (case_text subject.outcomes case) now looked
+    (cut_of subject.texts now) verdict ends_alike
+
+-- what is found of a case, with the numbers of descriptors as they are
 abbrev pub IsCaseFinding :
-    Option Filling → Subject → Observation → FaultCase → Finding → Type 0
-IsCaseFinding filling subject before case finding =
-    (now : Observation) × SeesCase filling (subject_in case subject) now
-    × IsFound subject.texts before (case_text subject.outcomes case) 1 now
-    (cut_of subject.texts now) finding
+    FaultOptions → Subject → Observation → Looked → FaultCase → Finding → Type 0
+IsCaseFinding options subject before looked_before case finding =
+    (now : Observation) × SeesCase options.filling (subject_in case subject) now
+    × ((looked : Looked) × IsLooked true subject.texts now looked
+    × IsFound before looked_before now looked 1
+    (case_said options.shown.json subject before case now looked) finding)
 
 -- ## The command
 
@@ -60,10 +76,12 @@ pub record AreTried
     (options : FaultOptions) (subject : Subject) (before : Observation)
     (cases : List FaultCase) (printed : Printed)
     : Type 0 where
+  pub looked : Looked
+  pub is_looked : IsLooked true subject.texts before looked
   pub as_is : Finding
-  pub found_as_is : IsFoundAsIs subject.texts before as_is
+  pub found_as_is : IsFoundAsIs options.shown.json subject.texts before looked as_is
   pub findings : List Finding
-  pub found : AllZip (IsCaseFinding options.filling subject before) cases findings
+  pub found : AllZip (IsCaseFinding options subject before looked) cases findings
   pub says : printed ≡ cases_printed options.shown as_is findings
 
 -- what is printed: of the cases, or why there was no run by the log as it is

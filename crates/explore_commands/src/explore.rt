@@ -1,6 +1,8 @@
-ghost use Rattle.std.specs.Prelude.{◌≡◌, IfOk, map, option_map};
+ghost use Rattle.std.specs.Prelude.{◌≡◌, ◌<◌, ◌^◌, IfOk, map, option_map};
 ghost use Rattle.command_texts.specs.Printing.{Prints};
-ghost use Rattle.explore_commands.specs.Explores.{ExplorePrints, FaultPrints, SeenExplores};
+ghost use Rattle.explorer.specs.Groups.{runs_of};
+ghost use Rattle.explore_commands.specs.Explores.{ExplorePrints, FaultPrints, GroupsPrint};
+ghost use Rattle.explore_commands.specs.Explores.{SeenExplores};
 ghost use Rattle.explore_commands.specs.Explores.{SubjectExplores, TrialExplores, goes_outside};
 ghost use Rattle.explore_commands.specs.Explores.{no_log};
 ghost use Rattle.explore_commands.specs.Explores.{no_room};
@@ -11,8 +13,11 @@ use crate::trying::{ToTry, to_try};
 use call_machine::Stop;
 use command_inputs::{bad_settings, needs_scripts};
 use command_texts::{Printed, Source, TextReader, bad_line, fault, no_memory, print};
-use explore_texts::{Schedule, Schedules, Shown, explored_printed, findings, found_as_is};
-use explorer::{Observation, ReportsProgress, RunFault, Trial, Workers};
+use explore_texts::{
+    Looked, Schedule, Schedules, SeenRun, Shown, alike_runs, explored_printed, findings,
+    found_as_is,
+};
+use explorer::{Groups, Observation, ReportsProgress, RunFault, Trial, Workers};
 use posix_terms::Settings;
 use std::alloc::{AllocError, Global};
 use std::io;
@@ -29,6 +34,8 @@ pub struct ExploreOptions {
     pub end: u64,
     /// How long a call is delayed at most, 0 to 1,000,000 units of its thread's clock.
     pub reach: u32,
+    /// Whether runs are compared with the numbers of their descriptors as they are.
+    pub raw: bool,
     /// Which lines are printed, and what is a fault.
     pub shown: Shown,
 }
@@ -36,8 +43,8 @@ pub struct ExploreOptions {
 /// `detio explore`: runs the scripts on the plain schedule, as they are and once for each seed, or
 /// each list of delays, with its delays. Nothing comes from outside, or what a log has: then its
 /// outcomes come in their order, at whatever turns, and its settings count. It prints how the run
-/// without delays ended, a line for each group of runs in which the threads saw the same and that
-/// ended alike, in the order of their first cases, and a line of sums; or one line for the first
+/// without delays ended, a line for the runs that are alike
+/// ([`alike_runs`](explore_texts::alike_runs)), and a line of sums; or one line for the first
 /// fault: without a log that is also that the run without delays stops where it goes outside. It
 /// returns the exit status, 1 where a [`Judgement`](explore_texts::Judgement) of a run is a fault:
 /// a reply is not as the texts expect, or, unless that is allowed, the run stopped or its calls
@@ -180,16 +187,34 @@ fn seen_explored<T: Threads + Sync, P: ReportsProgress>(
         Ok(groups) => groups,
         Err(fault) => return fault_printed(alloc, fault),
     };
-    let as_is = found_as_is(alloc, trial.texts, before)?;
-    let findings = findings(alloc, trial, schedule, before, groups.as_slice())?;
-    explored_printed(
-        alloc,
-        options.shown,
-        schedule,
-        &as_is,
-        groups.as_slice(),
-        &findings,
-    )
+    let looked = Looked::new(alloc, trial.texts, options.raw, before)?;
+    let run = SeenRun {
+        observation: before,
+        looked: &looked,
+    };
+    groups_explored(alloc, trial, options, schedule, run, groups)
+}
+
+// What is to be printed of the groups of runs, where this was the run without delays.
+fn groups_explored(
+    alloc: Global,
+    trial: Trial<'_>,
+    options: ExploreOptions,
+    schedule: &Schedule,
+    before: SeenRun<'_>,
+    groups: Groups,
+) -> Result<Printed, AllocError>
+    requires { runs_of groups < 2 ^ 64 }
+    ensures { IfOk result (
+        GroupsPrint (subject trial.entry) options schedule.now before.entry.observation.now
+        before.entry.looked.now groups) }
+{
+    let json = options.shown.json;
+    let as_is = found_as_is(alloc, json, trial.texts, before)?;
+    let runs = groups.runs();
+    let all = alike_runs(alloc, trial.texts, options.raw, groups)?;
+    let findings = findings(alloc, json, trial, schedule, before, &all)?;
+    explored_printed(alloc, options.shown, schedule, &as_is, runs, &findings)
 }
 
 // What is to be printed where a run could not be made.

@@ -15,7 +15,10 @@ use crate::explore::fault_printed;
 use crate::trying::{ToTry, to_try_by_log};
 use call_machine::Plain;
 use command_texts::{Printed, Source, TextReader, no_memory, print};
-use explore_texts::{Finding, Shown, cases_printed, cut_of, found, found_as_is, push_case};
+use explore_texts::{
+    Finding, Looked, SeenRun, Shown, cases_printed, cut_of, fault_value, found, found_as_is,
+    found_json, push_case,
+};
 use explorer::{Observation, ReportsProgress, RunFault, Trial, Workers};
 use fault_injection::{Choice, FaultCase, Filling, fault_cases, places_in, run_fault, run_filled};
 use std::alloc::{AllocError, Global};
@@ -127,7 +130,7 @@ fn run_tried<T: Threads + Sync, P: ReportsProgress>(
     progress: &mut P,
 ) -> Result<Printed, AllocError>
     ensures { IfOk result (AreTried options.entry (subject trial.entry) (observed run)
-        (cases_of options.choice.entry (subject trial.entry) run)) }
+        (cases_of options.entry.choice (subject trial.entry) run)) }
 {
     let before = Observation::new(alloc, &run)?;
     let cases = cases_of(alloc, options.choice, trial, &run)?;
@@ -161,16 +164,13 @@ fn seen_tried<T: Threads + Sync, P: ReportsProgress>(
 ) -> Result<Printed, AllocError>
     ensures { IfOk result (AreTried options.entry (subject trial.entry) before.now cases.now) }
 {
-    let as_is = found_as_is(alloc, trial.texts, before)?;
-    let findings = cases_found(
-        workers,
-        alloc,
-        options.filling,
-        trial,
-        before,
-        cases,
-        progress,
-    )?;
+    let looked = Looked::new(alloc, trial.texts, true, before)?;
+    let before = SeenRun {
+        observation: before,
+        looked: &looked,
+    };
+    let as_is = found_as_is(alloc, options.shown.json, trial.texts, before)?;
+    let findings = cases_found(workers, alloc, options, trial, before, cases, progress)?;
     cases_printed(alloc, options.shown, &as_is, &findings)
 }
 
@@ -178,14 +178,15 @@ fn seen_tried<T: Threads + Sync, P: ReportsProgress>(
 fn cases_found<T: Threads + Sync, P: ReportsProgress>(
     workers: &Workers<'_, T>,
     alloc: Global,
-    filling: Option<Filling>,
+    options: FaultOptions<'_>,
     trial: Trial<'_>,
-    before: &Observation,
+    before: SeenRun<'_>,
     cases: &[FaultCase],
     progress: &mut P,
 ) -> Result<Vec<Finding>, AllocError>
     ensures { IfOk result (λ findings.
-        AllZip (IsCaseFinding filling (subject trial.entry) before.now)
+        AllZip (IsCaseFinding options.entry (subject trial.entry) before.entry.observation.now
+        before.entry.looked.now)
         cases.now findings.items) }
 {
     let mut findings = Vec::new(alloc);
@@ -193,7 +194,7 @@ fn cases_found<T: Threads + Sync, P: ReportsProgress>(
         let made = findings.len();
         let count = (cases.len() - made).min(workers.at_a_time());
         let next = next_of(cases, made, count);
-        let found = some_found(workers, alloc, filling, trial, before, next)?;
+        let found = some_found(workers, alloc, options, trial, before, next)?;
         push_all(&mut findings, found)?;
         progress.made(findings.len() as u64, cases.len() as u64, 0);
     }
@@ -226,22 +227,23 @@ fn push_all(
 fn some_found<T: Threads + Sync>(
     workers: &Workers<'_, T>,
     alloc: Global,
-    filling: Option<Filling>,
+    options: FaultOptions<'_>,
     trial: Trial<'_>,
-    before: &Observation,
+    before: SeenRun<'_>,
     cases: &[FaultCase],
 ) -> Result<Vec<Result<Finding, AllocError>>, AllocError>
     ensures len { IfOk result (λ found. length found.items ≡ length cases.now) }
     ensures each { IfOk result (λ found. (i : ℕ) (d : _) (e : _) → i < length cases.now
         → IfOk (slice_index_or found.items i d)
-        (IsCaseFinding filling (subject trial.entry) before.now (slice_index_or cases.now i e))) }
+        (IsCaseFinding options.entry (subject trial.entry) before.entry.observation.now
+        before.entry.looked.now (slice_index_or cases.now i e))) }
 {
     let mut found = places(alloc, cases.len())?;
     for_each_mut(
         workers.threads,
         found.as_mut_slice(),
         workers.jobs.max(1),
-        &|i, one| *one = case_found(alloc, filling, trial, before, cases[i]),
+        &|i, one| *one = case_found(alloc, options, trial, before, cases[i]),
     );
     Ok(found)
 }
@@ -260,19 +262,29 @@ fn places(alloc: Global, count: usize) -> Result<Vec<Result<Finding, AllocError>
 // What is found of a case.
 fn case_found(
     alloc: Global,
-    filling: Option<Filling>,
+    options: FaultOptions<'_>,
     trial: Trial<'_>,
-    before: &Observation,
+    before: SeenRun<'_>,
     case: FaultCase,
 ) -> Result<Finding, AllocError>
     ensures { IfOk result (
-        IsCaseFinding filling (subject trial.entry) before.now case) }
+        IsCaseFinding options.entry (subject trial.entry) before.entry.observation.now
+        before.entry.looked.now case) }
 {
-    let now = observe_case(alloc, filling, trial, case)?;
+    let now = observe_case(alloc, options.filling, trial, case)?;
+    let looked = Looked::new(alloc, trial.texts, true, &now)?;
+    let run = SeenRun {
+        observation: &now,
+        looked: &looked,
+    };
     let cut = cut_of(alloc, trial.texts, &now)?;
+    if options.shown.json {
+        let value = fault_value(alloc, trial.outcomes, case)?;
+        return found_json(alloc, value, trial.texts, before, 1, run, &cut);
+    }
     let mut line = Vec::new(alloc);
     push_case(&mut line, trial.outcomes, case)?;
-    found(line, trial.texts, before, 1, &now, &cut)
+    found(line, trial.texts, before, 1, run, &cut)
 }
 
 // What is seen in the run of a case.

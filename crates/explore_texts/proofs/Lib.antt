@@ -1,3 +1,5 @@
 pub mod Cutting
+pub mod ExactFound
 pub mod Failing
 pub mod Interrupts
+pub mod Joining

@@ -10,9 +10,7 @@ use Rattle.fault_injection.specs.declared.injected.Injected.{Injected}
 use Rattle.fault_injection.specs.declared.injected.Injected.TheVariants as injected
 use Rattle.command_texts.specs.LogTexts.{request_word}
 use Rattle.command_texts.specs.Transcripts.{◌+++◌}
-use Rattle.command_texts.specs.declared.printed.Printed.{Printed}
-use Rattle.explore_texts.specs.Found.{counts_text, found_printed}
-use Rattle.explore_texts.specs.declared.explored_text.Shown.{Shown}
+use Rattle.explore_texts.specs.Found.{counts_text}
 use Rattle.explore_texts.specs.declared.finding.Finding.{Finding}
 
 -- what comes in place of an outcome
@@ -36,7 +34,3 @@ case_text outcomes case =
 unfoldable pub case_sums : List Finding → List ℕ
 case_sums findings =
     codes "cases " +++ decimal (length findings) +++ counts_text findings +++ codes "\n"
-
--- what is printed of the run by the log as it is and of these cases
-abbrev pub cases_printed : Shown → Finding → List Finding → Printed
-cases_printed shown as_is findings = found_printed shown as_is findings (case_sums findings)

@@ -2,5 +2,10 @@ pub mod CutOffs
 pub mod Schedules
 pub mod Judged
 pub mod Waits
+pub mod Looked
+pub mod Alike
 pub mod Found
 pub mod CaseTexts
+pub mod FoundJson
+pub mod Findings
+pub mod Explored

@@ -5,7 +5,6 @@ use Rattle.std.specs.Prelude.{codes, length}
 use Rattle.std.specs.Fmt.{decimal}
 use Rattle.std.specs.List.{flat_map}
 use Rattle.explorer.specs.Delays.{chance_delay}
-use Rattle.explorer.specs.Groups.{runs_of}
 use Rattle.explorer.specs.Lists.{delay_in, list_of, lists_of, places_of}
 use Rattle.explorer.specs.declared.delay_list.Delay.{Delay}
 use Rattle.explorer.specs.declared.groups.Group.{Group}
@@ -63,8 +62,8 @@ unfoldable pub front_text : Schedule → Group → List ℕ
 front_text schedule group =
     case_words schedule group.first +++ codes "runs " +++ decimal group.runs +++ codes " "
 
--- how many lists were not run
-abbrev pub left_text : Schedule → List Group → List ℕ
-left_text (schedule.Seeds chance) groups = []
-left_text (schedule.Lists bounds) groups =
-    codes " left out " +++ decimal (length (lists_of bounds) - runs_of groups)
+-- how many lists were not run, where so many were
+abbrev pub left_text : Schedule → ℕ → List ℕ
+left_text (schedule.Seeds chance) runs = []
+left_text (schedule.Lists bounds) runs =
+    codes " left out " +++ decimal (length (lists_of bounds) - runs)

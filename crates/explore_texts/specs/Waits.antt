@@ -1,6 +1,6 @@
 -- Believed: a contract of a command stands on it.
 -- Whether calls that are blocked for good are expected to be interrupted.
-use Rattle.std.specs.Prelude.{ℕ, ◌==◌, ◌&&◌, Bool, true, false, not, List, [], ◌∷◌, length}
+use Rattle.std.specs.Prelude.{ℕ, ◌==◌, ◌&&◌, Bool, true, false, not, List, length}
 use Rattle.std.specs.Prelude.{Option, Some, None, slice_get, Result, Ok, Err}
 use Rattle.std.specs.List.{list_any}
 use Rattle.posix_terms.specs.declared.errno.Errno.TheVariants as errno

@@ -1,13 +1,14 @@
 // What is printed of the cases of a log's outcomes.
 ghost use Rattle.std.specs.Prelude.{◌≡◌, ◌++◌, ◌<◌, ◌^◌, [], IfOk, OnOk, slice_index_or};
 ghost use Rattle.std.specs.Prelude.{option_copied, slice_get};
-ghost use Rattle.explore_texts.specs.CaseTexts.{case_sums, case_text, cases_printed, injected_text};
-ghost use Rattle.explore_texts.specs.CaseTexts.{kind_text};
+ghost use Rattle.explore_texts.specs.CaseTexts.{case_sums, case_text, injected_text, kind_text};
+ghost use Rattle.explore_texts.specs.Explored.{cases_printed};
 ghost use Rattle.explore_texts.specs.Found.{tallied};
 ghost use Rattle.explore_texts.specs.declared.judgement.Tally.{Tally};
 
-use crate::explored_text::{Shown, found_printed, push_counts};
+use crate::explored_text::{Shown, found_lines, printed_so, push_counts, status_of};
 use crate::finding::Finding;
+use crate::json_lines::push_case_sums_json;
 use command_texts::{Printed, push_number, push_word, request_word};
 use fault_injection::{FaultCase, Injected};
 use posix_terms::{Given, Outcomes, errno_name};
@@ -24,9 +25,14 @@ pub fn cases_printed(
     ensures { IfOk result (λ printed.
         printed ≡ cases_printed shown as_is.now findings.now) }
 {
-    let mut sums = Vec::new(alloc);
-    push_sums(&mut sums, findings)?;
-    found_printed(alloc, shown, as_is, findings, &sums)
+    let status = status_of(shown.allowed, as_is, findings);
+    let mut output = found_lines(alloc, shown, as_is, findings)?;
+    if shown.json {
+        push_case_sums_json(&mut output, status, findings)?;
+    } else {
+        push_sums(&mut output, findings)?;
+    }
+    Ok(printed_so(status, output))
 }
 
 // Adds the last line.

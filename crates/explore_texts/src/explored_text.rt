@@ -1,24 +1,26 @@
 // What is printed of runs that are compared with one.
-ghost use Rattle.std.specs.Prelude.{◌≡◌, ◌++◌, ◌<◌, ◌^◌, IfOk, OnOk, option_copied};
-ghost use Rattle.explorer.specs.Groups.{runs_of};
+ghost use Rattle.std.specs.Prelude.{◌≡◌, ◌++◌, ◌<◌, ◌^◌, [], IfOk, OnOk, option_copied};
 ghost use Rattle.explore_texts.specs.Found.{all_pass, as_is_text, cause_text, causes_text};
 ghost use Rattle.explore_texts.specs.Found.{change_text, count_text, counted};
 ghost use Rattle.explore_texts.specs.Found.{counts_text, difference_text, differs_text};
 ghost use Rattle.explore_texts.specs.Found.{ending_text};
-ghost use Rattle.explore_texts.specs.Found.{explored_printed, found_printed, found_text};
-ghost use Rattle.explore_texts.specs.Found.{line_shown};
+ghost use Rattle.explore_texts.specs.Explored.{explored_printed};
+ghost use Rattle.explore_texts.specs.Found.{found_lines, found_text};
+ghost use Rattle.explore_texts.specs.Found.{line_shown, status_of};
 ghost use Rattle.explore_texts.specs.Found.{lines_of, row_at, seen_text, sums_text, tallied};
 ghost use Rattle.explore_texts.specs.Found.{unmet_text};
 
 use crate::cut_off::push_cut;
-use crate::finding::Finding;
+use crate::finding::{Difference, Finding};
+use crate::json_lines::push_sums_json;
 use crate::judgement::{Allowed, Tally};
 use crate::schedule::Schedule;
 use crate::schedule_text::push_left;
 use answered_calls::BlockedLine;
+use command_inputs::UnmetLine;
 use command_texts::{Printed, push_call, push_end, push_number, push_word};
 use comparator::Verdict;
-use explorer::{Group, Observation};
+use explorer::Observation;
 use posix_terms::{Bytes, Row, Transcripts};
 use run_views::push_waits;
 use std::alloc::{AllocError, Global};
@@ -29,48 +31,71 @@ pub struct Shown {
     pub allowed: Allowed,
     /// Only the lines of what is a fault.
     pub failed_only: bool,
+    /// In JSON, an object a line.
+    pub json: bool,
 }
 
-/// What is printed of these groups and of what was found of them and of the run without delays.
+/// What is printed of so many runs with delays, by what was found of those that are alike and of
+/// the run without delays.
 pub fn explored_printed(
     alloc: Global,
     shown: Shown,
     schedule: &Schedule,
     as_is: &Finding,
-    groups: &[Group],
+    runs: u64,
     findings: &[Finding],
 ) -> Result<Printed, AllocError>
-    requires runs { runs_of groups.now < 2 ^ 64 }
-    requires tallied { (tally : Tally) → tallied tally findings.now < 2 ^ 64 }
+    requires { (tally : Tally) → tallied tally findings.now < 2 ^ 64 }
     ensures { IfOk result (λ printed.
-        printed ≡ explored_printed shown schedule.now as_is.now groups.now findings.now) }
+        printed ≡ explored_printed shown schedule.now as_is.now runs findings.now) }
 {
-    let mut sums = Vec::new(alloc);
-    push_sums(&mut sums, schedule, groups, findings)?;
-    found_printed(alloc, shown, as_is, findings, &sums)
+    let status = status_of(shown.allowed, as_is, findings);
+    let mut output = found_lines(alloc, shown, as_is, findings)?;
+    if shown.json {
+        push_sums_json(&mut output, schedule, runs, status, findings)?;
+    } else {
+        push_sums(&mut output, schedule, runs, findings)?;
+    }
+    Ok(printed_so(status, output))
 }
 
-// What is printed of what was found of runs, and of the run as it is; the sums come last.
-pub(crate) fn found_printed(
+// What is printed with this status.
+pub(crate) fn printed_so(status: u8, output: Vec<u8>) -> Printed
+    ensures { result ≡ record { status = status; output = output.items; errors = [] } }
+{
+    let errors = Bytes::from_vec(Vec::new(*output.allocator()));
+    Printed {
+        status,
+        output: Bytes::from_vec(output),
+        errors,
+    }
+}
+
+// The exit status: 1 where the run as it is or another is a fault.
+pub(crate) fn status_of(allowed: Allowed, as_is: &Finding, findings: &[Finding]) -> u8
+    ensures { result ≡ status_of allowed as_is.now findings.now }
+{
+    if as_is.judgement.passes(allowed) && all_pass(allowed, findings) {
+        0
+    } else {
+        1
+    }
+}
+
+// The lines of what was found of runs, after that of the run as it is.
+pub(crate) fn found_lines(
     alloc: Global,
     shown: Shown,
     as_is: &Finding,
     findings: &[Finding],
-    sums: &[u8],
-) -> Result<Printed, AllocError>
-    ensures { IfOk result (λ printed.
-        printed ≡ found_printed shown as_is.now findings.now sums.now) }
+) -> Result<Vec<u8>, AllocError>
+    ensures { IfOk result (λ lines.
+        lines.items ≡ found_lines shown as_is.now findings.now) }
 {
-    let mut output = Vec::new(alloc);
-    output.extend_from_slice(as_is.line.as_slice())?;
-    push_lines(&mut output, shown, findings)?;
-    output.extend_from_slice(sums)?;
-    let passes = as_is.judgement.passes(shown.allowed) && all_pass(shown.allowed, findings);
-    Ok(Printed {
-        status: if passes { 0 } else { 1 },
-        output: Bytes::from_vec(output),
-        errors: Bytes::from_vec(Vec::new(alloc)),
-    })
+    let mut lines = Vec::new(alloc);
+    lines.extend_from_slice(as_is.line.as_slice())?;
+    push_lines(&mut lines, shown, findings)?;
+    Ok(lines)
 }
 
 // Whether none of these is a fault.
@@ -91,7 +116,7 @@ pub(crate) fn push_as_is(
     before: &Observation,
     cut: &[usize],
     waits: &[BlockedLine],
-    unmet: &Option<Bytes>,
+    unmet: &Option<UnmetLine>,
 ) -> Result<(), AllocError>
     ensures { OnOk result (
         text.new.items ≡ text.old.items ++ as_is_text before.now cut.now waits.now unmet.now) }
@@ -143,18 +168,18 @@ pub(crate) fn push_found(
     now: &Observation,
     cut: &[usize],
     waits: &[BlockedLine],
-    verdict: Verdict,
-    ends_alike: bool,
-    unmet: &Option<Bytes>,
+    difference: Difference,
+    unmet: &Option<UnmetLine>,
 ) -> Result<(), AllocError>
     ensures { OnOk result (
         text.new.items
         ≡ text.old.items
-        ++ found_text before.now now.now cut.now waits.now verdict ends_alike unmet.now) }
+        ++ found_text before.now now.now cut.now waits.now difference.verdict
+        difference.ends_alike unmet.now) }
 {
     push_ending(text, now, cut, waits)?;
     push_word(text, " ")?;
-    push_difference(text, &before.seen, &now.seen, verdict, ends_alike)?;
+    push_difference(text, &before.seen, &now.seen, difference)?;
     push_unmet(text, unmet)
 }
 
@@ -162,16 +187,16 @@ fn push_difference(
     text: &mut Vec<u8>,
     before: &Transcripts,
     now: &Transcripts,
-    verdict: Verdict,
-    ends_alike: bool,
+    difference: Difference,
 ) -> Result<(), AllocError>
     ensures { OnOk result (
         text.new.items
-        ≡ text.old.items ++ difference_text before.now now.now verdict ends_alike) }
+        ≡ text.old.items
+        ++ difference_text before.now now.now difference.verdict difference.ends_alike) }
 {
-    match verdict {
+    match difference.verdict {
         Verdict::Differs { thread, row } => push_differs(text, before, now, thread, row),
-        Verdict::Same if ends_alike => push_word(text, "same"),
+        Verdict::Same if difference.ends_alike => push_word(text, "same"),
         Verdict::Same => push_word(text, "ends otherwise"),
     }
 }
@@ -211,7 +236,7 @@ fn push_change(
     push_seen(text, now)
 }
 
-fn row_at(seen: &Transcripts, thread: usize, row: usize) -> Option<&Row>
+pub(crate) fn row_at(seen: &Transcripts, thread: usize, row: usize) -> Option<&Row>
     ensures { option_copied result ≡ row_at seen.now thread row }
 {
     seen.threads().get(thread)?.rows().get(row)
@@ -229,14 +254,14 @@ fn push_seen(text: &mut Vec<u8>, row: Option<&Row>) -> Result<(), AllocError>
 }
 
 // Ends a line.
-fn push_unmet(text: &mut Vec<u8>, unmet: &Option<Bytes>) -> Result<(), AllocError>
+fn push_unmet(text: &mut Vec<u8>, unmet: &Option<UnmetLine>) -> Result<(), AllocError>
     ensures { OnOk result (text.new.items ≡ text.old.items ++ unmet_text unmet.now) }
 {
     let Some(line) = unmet else {
         return push_word(text, "\n");
     };
     push_word(text, " ")?;
-    text.extend_from_slice(line.as_slice())
+    text.extend_from_slice(line.text.as_slice())
 }
 
 // Adds the last line.
@@ -244,21 +269,19 @@ fn push_unmet(text: &mut Vec<u8>, unmet: &Option<Bytes>) -> Result<(), AllocErro
 fn push_sums(
     text: &mut Vec<u8>,
     schedule: &Schedule,
-    groups: &[Group],
+    runs: u64,
     findings: &[Finding],
 ) -> Result<(), AllocError>
-    requires runs { runs_of groups.now < 2 ^ 64 }
-    requires tallied { (tally : Tally) → tallied tally findings.now < 2 ^ 64 }
+    requires { (tally : Tally) → tallied tally findings.now < 2 ^ 64 }
     ensures { OnOk result (
-        text.new.items
-        ≡ text.old.items ++ sums_text schedule.now groups.now findings.now) }
+        text.new.items ≡ text.old.items ++ sums_text schedule.now runs findings.now) }
 {
     push_word(text, "runs ")?;
-    push_number(text, all_runs(groups))?;
+    push_number(text, runs)?;
     push_word(text, " groups ")?;
-    push_number(text, groups.len() as u64)?;
+    push_number(text, findings.len() as u64)?;
     push_counts(text, findings)?;
-    push_left(text, schedule, groups)?;
+    push_left(text, schedule, runs)?;
     push_word(text, "\n")
 }
 
@@ -312,19 +335,8 @@ fn push_cause(text: &mut Vec<u8>, word: &str, count: u64) -> Result<(), AllocErr
     push_number(text, count)
 }
 
-pub(crate) fn all_runs(groups: &[Group]) -> u64
-    requires { runs_of groups.now < 2 ^ 64 }
-    ensures { result ≡ runs_of groups.now }
-{
-    let mut runs = 0;
-    for group in groups {
-        runs += group.runs;
-    }
-    runs
-}
-
 // How many runs are counted here.
-fn tallied(tally: Tally, findings: &[Finding]) -> u64
+pub(crate) fn tallied(tally: Tally, findings: &[Finding]) -> u64
     requires { tallied tally findings.now < 2 ^ 64 }
     ensures { result ≡ tallied tally findings.now }
 {

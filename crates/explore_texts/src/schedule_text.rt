@@ -1,11 +1,9 @@
 // What is printed of the delays of runs.
-ghost use Rattle.std.specs.Prelude.{◌≡◌, ◌++◌, ◌<◌, ◌^◌, OnOk};
+ghost use Rattle.std.specs.Prelude.{◌≡◌, ◌++◌, OnOk};
 ghost use Rattle.std.specs.List.{flat_map};
-ghost use Rattle.explorer.specs.Groups.{runs_of};
 ghost use Rattle.explorer.specs.Lists.{delays_in};
 ghost use Rattle.explore_texts.specs.Schedules.{case_words, delay_text, front_text, left_text};
 
-use crate::explored_text::all_runs;
 use crate::schedule::Schedule;
 use command_texts::{push_number, push_word};
 use explorer::{Delay, DelayList, Group};
@@ -72,18 +70,17 @@ fn push_delay(text: &mut Vec<u8>, delay: Delay) -> Result<(), AllocError>
     push_word(text, " ")
 }
 
-// Adds how many lists were not run.
+// Adds how many lists were not run, where so many were.
 pub(crate) fn push_left(
     text: &mut Vec<u8>,
     schedule: &Schedule,
-    groups: &[Group],
+    runs: u64,
 ) -> Result<(), AllocError>
-    requires { runs_of groups.now < 2 ^ 64 }
-    ensures { OnOk result (text.new.items ≡ text.old.items ++ left_text schedule.now groups.now) }
+    ensures { OnOk result (text.new.items ≡ text.old.items ++ left_text schedule.now runs) }
 {
     let Schedule::Lists(lists) = schedule else {
         return Ok(());
     };
     push_word(text, " left out ")?;
-    push_number(text, lists.count().saturating_sub(all_runs(groups)))
+    push_number(text, lists.count().saturating_sub(runs))
 }

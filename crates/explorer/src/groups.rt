@@ -1,5 +1,5 @@
 ghost use Rattle.std.specs.Prelude.{◌≡◌, ◌<◌, ◌+◌, ◌^◌, [], All, List, OnErr, OnOk};
-ghost use Rattle.explorer.specs.Groups.{Joins};
+ghost use Rattle.explorer.specs.Groups.{Joins, runs_of};
 ghost use Rattle.explorer.specs.declared.groups.Group.{Group};
 
 use crate::observation::Observation;
@@ -43,6 +43,25 @@ impl Groups {
         ensures { result.now ≡ self.now }
     {
         self.groups.as_slice()
+    }
+
+    /// How many runs there are in all.
+    pub fn runs(&self) -> u64
+        requires { runs_of self.now < 2 ^ 64 }
+        ensures { result ≡ runs_of self.now }
+    {
+        let mut runs = 0;
+        for group in &self.groups {
+            runs += group.runs;
+        }
+        runs
+    }
+
+    /// The groups, in order, as a list of its own. It takes no memory.
+    pub fn into_vec(self) -> Vec<Group>
+        ensures { result.items ≡ self }
+    {
+        self.groups
     }
 
     /// The run of a case joins the group in which the same was seen, or else is the first of a new

@@ -17,9 +17,9 @@ offset_bounds-rows-row c =
 pub returns : goal.returns
 returns c =
     let found = rw (c.in-Some.is, c.deref.ensures.value) at c.in-Ok-first_unmet.ensures in
-    let says = rw (← c.index-rows-row.is) at c.in_ok-line.ensures in
+    let says = rw (← c.index-rows-row.is) at c.in_ok-text.ensures in
     line_here c.args.thread c.args.text.now c.args.rows.now c.in-Ok.script
-    c.in-Ok-expectations_of.expectations.items c.in-Some.field-0 c.index.result.now
-    c.index-rows-row.result c.in_ok-line.line
-    c.in-Ok.ensures c.in-Ok-expectations_of.ensures.ok found c.index.ensures
+    c.in-Ok-expectations_of.expectations.items c.in-Some.field-0 c.index-expectation.result.now
+    c.index-rows-row.result c.in_ok-text.text
+    c.in-Ok.ensures c.in-Ok-expectations_of.ensures.ok found c.index-expectation.ensures
     c.index-rows-row.is says

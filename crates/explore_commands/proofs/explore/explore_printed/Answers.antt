@@ -1,4 +1,4 @@
-use Rattle.std.proofs.Common.{◌≡◌, Bool, subst}
+use Rattle.std.proofs.Common.{Bool, subst}
 use Rattle.std.proofs.lemmas.Result.{IfOk-weaker}
 use Rattle.explorer.specs.Subject.{Subject}
 use Rattle.explore_commands.specs.Explores.{TrialExplores}

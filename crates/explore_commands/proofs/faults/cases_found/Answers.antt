@@ -28,7 +28,8 @@ loop-alloc-preserved g c =
     let next = c.next_of-next.result.now in
     let made = c.len-made.result in
     let count = c.min-count.result in
-    let R = IsCaseFinding c.args.filling (subject c.args.trial) c.args.before.now in
+    let R = IsCaseFinding c.args.options (subject c.args.trial) c.args.before.observation.now
+    c.args.before.looked.now in
     let is : length old ≡ made = search rules in
     let within : made + count ≤ length cases = search rules in
     let so_far = subst (λ (n : ℕ). AllZip R (take n cases) old) is c.loop-alloc.invariant.found in

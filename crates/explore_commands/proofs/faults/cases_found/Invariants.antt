@@ -7,7 +7,7 @@ use Rattle.explore_commands.proofs.faults.cases_found.Given as goal
 -- the cases so far
 abbrev pub invariant-loop-alloc : goal.invariant-loop-alloc
 invariant-loop-alloc g l = record {
-  found : AllZip (IsCaseFinding l.filling (subject l.trial) l.before)
+  found : AllZip (IsCaseFinding l.options (subject l.trial) l.before.observation.now l.before.looked.now)
       (take (length l.findings.items) l.cases) l.findings.items;
   within : length l.findings.items ≤ length l.cases;
 }
