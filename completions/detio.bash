@@ -14,8 +14,8 @@ _detio() {
     help) options='check plain explore faults minimise record replay run rerun compare draw show make upgrade help' ;;
     check) options='--json --expect --why -h --help' paths=yes ;;
     plain) options='--patience --door-cost --turns --calls --by-turn --lanes --json --expect --why -h --help' paths=yes ;;
-    explore) options='--seeds --delays --most --only --reach --failed --allow-stops --allow-blocked --jobs --write --force --patience --door-cost --log --why -h --help' paths=yes ;;
-    faults) options='--log --errors --short --then --failed --allow-stops --allow-blocked --only --out --force --jobs --why -h --help' paths=yes ;;
+    explore) options='--seeds --delays --most --only --reach --raw --json --failed --allow-stops --allow-blocked --jobs --write --force --patience --door-cost --log --why -h --help' paths=yes ;;
+    faults) options='--log --errors --short --then --json --failed --allow-stops --allow-blocked --only --out --force --jobs --why -h --help' paths=yes ;;
     minimise) options='--write --force --schedule --same --patience --door-cost --log --why -h --help' paths=yes ;;
     record) options='--log --log-version --force --wait --in-turn --follow --patience --door-cost --turns --calls --by-turn --lanes --json --expect --why -h --help' paths=yes ;;
     replay) options='--log --threads --turns --calls --by-turn --lanes --json --expect --why -h --help' paths=yes ;;

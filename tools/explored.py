@@ -1,6 +1,6 @@
 #!/usr/bin/env python3
 """Says what `detio explore` has to print, by runs of `detio plain`:
-`tools/explored.py [--seeds A..B] [--reach N] SCRIPT..`, or with `--delays D [--most N]` in place of seeds.
+`tools/explored.py [--seeds A..B] [--reach N] [--raw] SCRIPT..`, or with `--delays D [--most N]` in place of seeds.
 
 It varies the scripts and groups the runs in code of its own, after docs/exploring.md, and takes what each
 run gives from `detio plain --expect`. With --check it compares that with what `detio explore` prints, and the
@@ -18,10 +18,11 @@ from detio_tools.explored import Case, by_lists, by_seeds, explored, lists_of
 
 def check(program: str, asked: argparse.Namespace, wanted: runs.Answer, first: int, first_texts: list[str]) -> None:
     """Ends with what is wrong with what is printed, or with what is written for the first case, if something is."""
+    raw = ["--raw"] if asked.raw else []
     words: list[str] = ["--reach", str(asked.reach), *(os.path.abspath(it) for it in asked.script)]
     of_lists = ["--delays", str(asked.delays)] if asked.delays else []
     all_cases: list[str] = [*of_lists, "--most", str(asked.most)] if asked.delays else ["--seeds", asked.seeds]
-    found = runs.answer([program, "explore", *all_cases, *words], "/")
+    found = runs.answer([program, "explore", *raw, *all_cases, *words], "/")
     if found != wanted:
         sys.exit(f"explored: failed\n{runs.both_said(found, wanted)}")
     with tempfile.TemporaryDirectory() as room:
@@ -54,6 +55,7 @@ def read_words() -> argparse.Namespace:
     options.add_argument("--delays", type=int, help="lists of at most so many delays, 1 or 2, in place of seeds")
     options.add_argument("--most", type=int, default=1000, help="how many lists are run at most")
     options.add_argument("--reach", type=int, default=20)
+    options.add_argument("--raw", action="store_true", help="the numbers of descriptors are compared too")
     options.add_argument("--check", action="store_true")
     options.add_argument("script", nargs="+")
     return options.parse_args()
@@ -66,7 +68,7 @@ def main() -> int:
         with open(path, encoding="latin-1") as it:
             texts.append(it.read())
     cases, first, left = cases_of(texts, asked)
-    status, out, err = explored(program, texts, cases, left)
+    status, out, err = explored(program, texts, cases, left, raw=asked.raw)
     if asked.check:
         check(program, asked, (status, out, err), first, cases[first if asked.delays else 0][1])
         return 0

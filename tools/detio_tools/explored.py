@@ -14,6 +14,10 @@ from detio_tools import model, runs
 
 MASK = 2**64 - 1
 LINES = 1000
+DESCRIPTORS = 32
+AT_DESCRIPTOR = set(
+    "close read write pread pwrite lseek ftruncate fstat dup dup_from dup2 getfl setfl shutdown tcp_accept".split()
+)
 CAUSES = ("clock full", "end of log", "diverged")
 # A run by `detio plain`: by thread its rows, its last line, and the line of its unmet expectation, if it has one.
 Ran = tuple[list[list[str]], str, str | None]
@@ -105,6 +109,53 @@ def reply_of(row: str) -> model.Reply:
     if what == "data":
         return what, b"" if words[0] == "-" else bytes.fromhex(words[0])
     return what, *map(int, words)
+
+
+class Names:
+    """The names of descriptors: how many were named before them. What is none has the name -1."""
+
+    def __init__(self) -> None:
+        self.count = 0
+        self.of: dict[int, int] = {}
+
+    def given(self, number: int) -> int:
+        """The name of a descriptor that was opened at this number."""
+        if not 0 <= number < DESCRIPTORS:
+            return -1
+        self.of[number], self.count = self.count, self.count + 1
+        return self.of[number]
+
+    def used(self, number: int) -> int:
+        """The name of a descriptor that is used by this number."""
+        return self.of[number] if number in self.of else self.given(number)
+
+    def in_call(self, step: model.Call, reply: model.Reply) -> list[object]:
+        """A call and its reply, with their descriptors renamed."""
+        word, *operands = step
+        for at in range(2 if word == "dup2" else 1 if word in AT_DESCRIPTOR else 0):
+            operands[at] = self.used(operands[at])
+        what, *values = reply
+        if what == "pair" or what == "number" and word not in ("lseek", "getfl"):
+            values = [self.given(value) for value in values]
+        return [word, *operands, what, *values]
+
+
+def renamed(texts: list[str], seen: list[list[str]]) -> list[list[list[object]]]:
+    """What threads saw, with their descriptors renamed as it is read, thread by thread."""
+    names = Names()
+    threads: list[list[list[object]]] = []
+    for text, rows in zip(texts, seen):
+        script, calls = model.Script(text), []
+        for reply in map(reply_of, rows):
+            step = script.step()
+            while step is not None and step[0] == "work":
+                script.tell(None)
+                step = script.step()
+            assert step is not None, "a row has its call"
+            script.tell(reply)
+            calls.append(names.in_call(step, reply))
+        threads.append(calls)
+    return threads
 
 
 def is_cut_off(text: str, rows: list[str]) -> bool:
@@ -200,14 +251,31 @@ def came_to(run: Ran, blocked: list[tuple[int, int]], texts: list[str]) -> str:
     return "passed" if run[1] == "end" else "stopped"
 
 
-def difference(before: Ran, blocked: list[tuple[int, int]], group: "Group") -> str:
+def unmet_place(unmet: str, texts: list[str]) -> tuple[str, ...]:
+    """Which expectation is not met: its thread, the line of its call, and what it expects, of those below that call."""
+    if not unmet:
+        return ()
+    _, thread, number, rest = unmet.split(" ", 3)
+    wanted = itertools.takewhile(lambda it: it.startswith("#"), lines_of(texts[int(thread)])[int(number) :])
+    fitting = [it[3:] for it in wanted if it.startswith("#= ") and rest.startswith(it[3:] + " ")]
+    return thread, number, max(fitting, key=len, default="")
+
+
+def difference(before: Ran, blocked: list[tuple[int, int]], group: "Group", texts: list[str], raw: bool) -> str:
+    """The first row of a group that differs from those of the run as it is, or how their ends do."""
     now = group.run
-    for thread, (old, new) in enumerate(zip(before[0], now[0])):
+    ran: list[list[list[list[object]]]] = [compared(texts, it[0], raw) for it in (before, now)]
+    for thread, (old, new) in enumerate(zip(*ran)):
         for row in range(max(len(old), len(new))):
-            was, is_now = (rows[row] if row < len(rows) else "-" for rows in (old, new))
-            if was != is_now:
+            if old[row : row + 1] != new[row : row + 1]:
+                was, is_now = ((*it[0][thread], *["-"] * (row + 1))[row] for it in (before, now))
                 return f"differs {thread} {row} {was} -> {is_now}"
     return "same" if (before[1], blocked) == (now[1], group.blocked) else "ends otherwise"
+
+
+def compared(texts: list[str], seen: list[list[str]], raw: bool) -> list[list[list[object]]]:
+    """What is compared of what threads saw."""
+    return [[[row] for row in rows] for rows in seen] if raw else renamed(texts, seen)
 
 
 def by_seeds(texts: list[str], seeds: Iterable[int], reach: int) -> Iterator[Case]:
@@ -265,38 +333,44 @@ class Group:
 
 
 def grouped(
-    program: str, texts: list[str], cases: Iterable[Case], settings: Sequence[str]
+    program: str, texts: list[str], cases: Iterable[Case], settings: Sequence[str], raw: bool
 ) -> list[Group] | tuple[int, str, str]:
-    """The groups of the runs of these cases, or what is answered where a script has no room for its delays."""
+    """The groups of the runs of these cases, those together of which the same expectation is not met; or what is
+    answered where a script has no room for its delays."""
     groups: dict[str, Group] = {}
+    sections: dict[tuple[str, ...], list[Group]] = {}
     for words, varied_texts in cases:
         for thread, text in enumerate(varied_texts):
             if len(lines_of(text)) > LINES:
                 return 3, "", f"script {thread}: no room for delays\n"
         run = plain(program, varied_texts, settings)
         blocked = blocked_lines(run, varied_texts, texts, settings)
-        key = repr((run[:2], blocked))
+        unmet, judged = given(run[2], varied_texts, texts), came_to(run, blocked, texts)
+        place = unmet_place(unmet.strip(), texts)
+        key = repr((place, judged, compared(texts, run[0], raw), run[1], blocked))
         if key not in groups:
-            end, unmet = ending(run, varied_texts, blocked), given(run[2], varied_texts, texts)
-            groups[key] = Group(words, 0, run, end, unmet, blocked, came_to(run, blocked, texts))
+            end = ending(run, varied_texts, blocked)
+            groups[key] = Group(words, 0, run, end, unmet, blocked, judged)
+            sections.setdefault(place, []).append(groups[key])
         groups[key].count += 1
-    return list(groups.values())
+    return list(itertools.chain.from_iterable(sections.values()))
 
 
 def explored(
-    program: str, texts: list[str], cases: Iterable[Case], left: str = "", settings: Sequence[str] = ()
+    program: str, texts: list[str], cases: Iterable[Case], left: str = "", settings: Sequence[str] = (),
+    raw: bool = False,
 ) -> runs.Answer:
     """Status, standard output and standard error of `detio explore`, for scripts without a fault and these cases."""
     before = plain(program, texts, settings)
     if before[1].startswith("stop end of log "):
         return 2, "", "the scripts go outside, and nothing comes from there: give --log, a log of record\n"
-    groups = grouped(program, texts, cases, settings)
+    groups = grouped(program, texts, cases, settings, raw)
     if isinstance(groups, tuple):
         return groups
     blocked = blocked_lines(before, texts, texts, settings)
     all_came_to = {came_to(before, blocked, texts), *(it.came_to for it in groups)}
     out = [f"as they are {ending(before, texts, blocked)}{given(before[2], texts, texts)}\n"]
-    out += [f"{it.words}runs {it.count} {it.end} {difference(before, blocked, it)}{it.unmet}\n" for it in groups]
+    out += [f"{it.words}runs {it.count} {it.end} {difference(before, blocked, it, texts, raw)}{it.unmet}\n" for it in groups]
     out.append(f"runs {sum(it.count for it in groups)} groups {len(groups)}{sums(groups)}{left}\n")
     return 0 if all_came_to == {"passed"} else 1, "".join(out), ""
 
