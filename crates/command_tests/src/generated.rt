@@ -1,5 +1,5 @@
 use crate::devices::{Text, sources};
-use crate::recording::{NewLogFile, free_path, is_replayed, record_by_host};
+use crate::recording::{NewLogFile, free_path, record_by_host};
 use crate::told::replay_by_threads;
 use posix_terms::Settings;
 use std::alloc::{AllocError, Global};
@@ -98,20 +98,15 @@ fn texts(alloc: Global, scripts: &[String]) -> Result<Vec<&str>, AllocError> {
     Ok(texts)
 }
 
-// Whether the run of this seed is replayed, by threads or on one.
+// Whether the run of this seed is replayed.
 fn is_seed_replayed(
     rt: &(impl Threads + Wait + Sync),
     log: NewLogFile<'_>,
     seed: u64,
-    by_threads: bool,
 ) -> io::Result<bool> {
     let scripts = scripts(log.host.alloc(), seed)?;
     let texts = texts(log.host.alloc(), &scripts)?;
-    if by_threads {
-        is_replayed_by_threads(rt, short_patience(seed), log, &texts)
-    } else {
-        is_replayed(rt, short_patience(seed), log, &texts)
-    }
+    is_replayed_by_threads(rt, short_patience(seed), log, &texts)
 }
 
 // Whether the runs of these seeds are replayed, through a log of this name.
@@ -120,11 +115,10 @@ fn are_replayed(
     host: HostRuntime,
     name: &str,
     seeds: Range<u64>,
-    by_threads: bool,
 ) -> Result<bool, Fail> {
     let path = free_path(host, name)?;
     for seed in seeds {
-        if !is_seed_replayed(rt, NewLogFile::at(host, path.as_str()), seed, by_threads)? {
+        if !is_seed_replayed(rt, NewLogFile::at(host, path.as_str()), seed)? {
             return Ok(false);
         }
     }
@@ -132,22 +126,9 @@ fn are_replayed(
     Ok(true)
 }
 
-// A thousand runs, in two tests.
-#[test]
-fn recorded_runs_are_replayed(rt: HostRuntime) -> Result<(), Fail> {
-    assert!(rt; are_replayed(&rt, rt, "generated", 0..500, false)?);
-    Ok(())
-}
-
-#[test]
-fn more_recorded_runs_are_replayed(rt: HostRuntime) -> Result<(), Fail> {
-    assert!(rt; are_replayed(&rt, rt, "generated_more", 500..1000, false)?);
-    Ok(())
-}
-
-// A hundred more.
+// Five hundred runs. `tools/soak` has others replayed on one thread.
 #[test]
 fn recorded_runs_are_replayed_by_threads(rt: HostRuntime) -> Result<(), Fail> {
-    assert!(rt; are_replayed(&rt, rt, "generated_by_threads", 1000..1100, true)?);
+    assert!(rt; are_replayed(&rt, rt, "generated_by_threads", 0..500)?);
     Ok(())
 }
