@@ -3,7 +3,7 @@ import pathlib
 import tempfile
 import unittest
 
-from detio_tools import interposed
+from detio_tools import interposed, repository
 
 HEADER = """
 # 1 "/usr/include/some.h" 1 3 4
@@ -93,7 +93,7 @@ class Interposed(unittest.TestCase):
             self.assertFalse(interposed.takes_descriptor(given), given)
 
     def test_the_tables_here_are_read(self) -> None:
-        tables = interposed.read_tables(pathlib.Path(interposed.repository.TOP) / "bindings/preload")
+        tables = interposed.read_tables(pathlib.Path(repository.TOP) / "bindings/preload")
         self.assertEqual(tables.faults, [])
         self.assertGreater(len(tables.hows), 600)
         self.assertGreater(len(tables.whys), 300)
