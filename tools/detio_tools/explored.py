@@ -370,7 +370,8 @@ def explored(
     blocked = blocked_lines(before, texts, texts, settings)
     all_came_to = {came_to(before, blocked, texts), *(it.came_to for it in groups)}
     out = [f"as they are {ending(before, texts, blocked)}{given(before[2], texts, texts)}\n"]
-    out += [f"{it.words}runs {it.count} {it.end} {difference(before, blocked, it, texts, raw)}{it.unmet}\n" for it in groups]
+    for it in groups:
+        out.append(f"{it.words}runs {it.count} {it.end} {difference(before, blocked, it, texts, raw)}{it.unmet}\n")
     out.append(f"runs {sum(it.count for it in groups)} groups {len(groups)}{sums(groups)}{left}\n")
     return 0 if all_came_to == {"passed"} else 1, "".join(out), ""
 

@@ -146,7 +146,8 @@ class Machine:
         with tempfile.TemporaryDirectory(prefix="interposed-") as room:
             parts = [str(it) for it in sorted(sources.glob("*.c")) if it.name != "launch.c"]
             words = [self.compiler, "-std=c11", "-shared", "-fPIC", "-w", "-fvisibility=hidden", "-U_FORTIFY_SOURCE",
-                     "-fno-builtin", f"-I{sources}", f"-I{repository.TOP}/bindings/c", "-o", f"{room}/library.so", *parts]
+                     "-fno-builtin", f"-I{sources}", f"-I{repository.TOP}/bindings/c",
+                     "-o", f"{room}/library.so", *parts]
             subprocess.run(words, check=True)
             return names_of(listed(f"{room}/library.so"))
 
@@ -208,4 +209,5 @@ def compare(tables: Tables, library: Library, declared: dict[str, str], others: 
 def compiler() -> str | None:
     """The C compiler, where there is one."""
     name = os.environ.get("CC", "cc")
-    return name if subprocess.run(["sh", "-c", f"command -v {name}"], stdout=subprocess.DEVNULL).returncode == 0 else None
+    found = subprocess.run(["sh", "-c", f"command -v {name}"], stdout=subprocess.DEVNULL)
+    return name if found.returncode == 0 else None

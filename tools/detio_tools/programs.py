@@ -416,7 +416,8 @@ def growing(trial: Trial) -> None:
     launcher, program = str(trial.library / "detio-launch"), str(trial.room / "programs/grows")
     script = f"ulimit -v 1500000; exec {launcher} run --log grows.log --force -- {program} 2000000"
     ran = trial.launch("/bin/sh", "-c", script, folder=folder)
-    trial.check(ran.status == 0 and ran.ours().count("of history in memory") == 1, f"growing: {ran.status} {ran.ours()}")
+    trial.check(ran.status == 0 and ran.ours().count("of history in memory") == 1,
+                f"growing: {ran.status} {ran.ours()}")
     said = re.search(r"most calls: (\d+) of thread 2, ", ran.ours())
     trial.check(said is not None and int(said[1]) > 10000, f"growing: it is not said who: {ran.ours()}")
 
@@ -492,7 +493,8 @@ def stuck(trial: Trial) -> None:
                     f"stuck: status {ran.status}: {ran.ours()}")
         where = callers_in(ran, str(trial.room / "programs/stuck"))
         told = "the end of thread 1" in ran.ours() and all(f"mutex of thread {it}" in ran.ours() for it in (1, 2))
-        trial.check(told and sorted(where) == ["locks", "locks", "main", "one", "other"], f"stuck: {where}: {ran.ours()}")
+        trial.check(told and sorted(where) == ["locks", "locks", "main", "one", "other"],
+                    f"stuck: {where}: {ran.ours()}")
     stuck_in_all_ways(trial)
     stuck_for_ever(trial)
 
@@ -514,7 +516,8 @@ def stuck_in_all_ways(trial: Trial) -> None:
 def stuck_for_ever(trial: Trial) -> None:
     """With --wait-forever a deadlock is said, and the process stays."""
     folder, program = trial.room / "stuck", str(trial.room / "programs/stuck")
-    words = [str(trial.library / "detio-launch"), "run", "--wait-forever", "--log", "stays.log", "--force", "--", program]
+    words = [str(trial.library / "detio-launch"), "run", "--wait-forever", "--log", "stays.log", "--force", "--",
+             program]
     with open(folder / "said", "wb") as err:
         process = subprocess.Popen(words, cwd=folder, stdout=subprocess.DEVNULL, stderr=err, stdin=subprocess.DEVNULL,
                                    env=trial.environment())
@@ -545,7 +548,8 @@ def diverges(trial: Trial) -> None:
         launcher = str(trial.library / "detio-launch")
         again = trial.launch(launcher, "rerun", "--log", "diverges.log", "--force", "--", program, now, folder=folder)
         line = again.ours().split("; detio: ")[-1]
-        trial.check(again.status == DIVERGED and asks in line and f"its log has {has}" in line and "thread 0, in its call" in
+        trial.check(again.status == DIVERGED and asks in line and f"its log has {has}" in line and "thread 0, in its call"
+                    in
                     line, f"diverges: {was} {now}: {again.status} {again.ours()}")
         where = callers_in(Ran(0, b"", f"detio: {line}".encode()), program)
         trial.check(where == ["asks"], f"diverges: {was} {now}: at {where}: {line}")
@@ -562,12 +566,15 @@ def stops(trial: Trial) -> None:
     if not trial.check(call is not None, f"stops: {again.ours()}") or not call:
         return
     words = [launcher, "rerun", "--log", "stops.log", "--stop-at", f"0,{call[1]}"]
-    process = subprocess.Popen(words, cwd=folder, stdout=subprocess.PIPE, stderr=subprocess.PIPE, stdin=subprocess.DEVNULL,
+    process = subprocess.Popen(words, cwd=folder, stdout=subprocess.PIPE, stderr=subprocess.PIPE,
+                               stdin=subprocess.DEVNULL,
                                env=trial.environment())
     _, status = os.waitpid(process.pid, os.WUNTRACED)
-    trial.check(os.WIFSTOPPED(status) and os.WSTOPSIG(status) == signal.SIGSTOP, f"stops: the process did not: {status}")
+    trial.check(os.WIFSTOPPED(status) and os.WSTOPSIG(status) == signal.SIGSTOP,
+                f"stops: the process did not: {status}")
     if shutil.which("gdb"):
-        seen_there = subprocess.run(["gdb", "-batch", "-p", str(process.pid), "-ex", "bt"], capture_output=True, text=True)
+        seen_there = subprocess.run(["gdb", "-batch", "-p", str(process.pid), "-ex", "bt"], capture_output=True,
+                                    text=True)
         trial.check("asks" in seen_there.stdout, f"stops: gdb does not find it: {seen_there.stdout[-500:]}")
     else:
         trial.leaves_out("gdb", 1)
@@ -698,7 +705,8 @@ def other_user(trial: Trial) -> None:
             shutil.copy(trial.library / name, room)
         again = trial.launch("setpriv", "--reuid", "65534", f"{room}/detio-launch", "rerun", "--log", str(copy),
                              folder=pathlib.Path("/"))
-    trial.check((again.status, again.out) == (0, b"0\n"), f"other user: rerun {again.status} {again.out!r} {again.ours()}")
+    trial.check((again.status, again.out) == (0, b"0\n"),
+                f"other user: rerun {again.status} {again.out!r} {again.ours()}")
 
 
 def function_at(program: str, offset: int) -> str:
@@ -720,8 +728,10 @@ def callers_in(ran: Ran, program: str) -> list[str]:
 
 # The ways of strangers, and what the line says of each.
 STRANGERS = {
-    "by_syscall": "system call 79 goes past the run", "by_fork": "fork: ", "by_vfork": "fork: ", "by_clone": "clone is not",
-    "by_spawn": "posix_spawn: ", "by_system": "system: ", "by_popen": "popen: ", "by_handler": "the handler of signal 14",
+    "by_syscall": "system call 79 goes past the run", "by_fork": "fork: ", "by_vfork": "fork: ",
+    "by_clone": "clone is not",
+    "by_spawn": "posix_spawn: ", "by_system": "system: ", "by_popen": "popen: ",
+    "by_handler": "the handler of signal 14",
     "by_mapping": "a shared mapping", "by_ring": "system call 425 is not", "by_thread": "no number for one more thread",
     "by_numbers": "no number for one more file", "by_instruction": "system call 79 goes around"}
 
@@ -736,7 +746,8 @@ def strangers(trial: Trial) -> None:
         run = trial.run("strangers.log", program, str(way), folder=folder, options=some)
         again = trial.rerun("strangers.log", folder=folder)
         quiet = name == "by_instruction"  # without --strict nobody looks at it
-        trial.check(run.status == 0 and run.ours().count(said) == (not quiet), f"strangers: {name}: {run.status} {run.ours()}")
+        trial.check(run.status == 0 and run.ours().count(said) == (not quiet),
+                    f"strangers: {name}: {run.status} {run.ours()}")
         if not quiet:
             where = callers_in(run, program)
             trial.check(where == [name], f"strangers: {name}: it was called by {where}: {run.ours()}")
@@ -753,9 +764,11 @@ def strangers(trial: Trial) -> None:
         trial.check(again.status in wanted, f"strangers: {name}: strict rerun: {again.status} {again.ours()}")
     for it in "pigz", "sort":
         if shutil.which(it):
-            strict = trial.run("strict.log", it, "data.txt" if it == "sort" else "-kf", *(("data.txt",) if it == "pigz" else ()),
+            strict = trial.run("strict.log", it, "data.txt" if it == "sort" else "-kf",
+                               *(("data.txt",) if it == "pigz" else ()),
                                folder=folder, options=("--strict",))
-            trial.check((strict.status, strict.ours()) == (0, ""), f"strangers: {it}: strict: {strict.status} {strict.ours()}")
+            trial.check((strict.status, strict.ours()) == (0, ""),
+                        f"strangers: {it}: strict: {strict.status} {strict.ours()}")
 
 
 def compiles(words: list[str]) -> bool:
@@ -943,6 +956,9 @@ def compare_table(trial: Trial) -> None:
 
 OTHERS: dict[str, Callable[[Trial], None]] = {
     "table": compare_table, "closed": closed_program, "killed": killed, "cut": cut, "differing": differing, "statuses":
-    statuses, "stuck": stuck, "diverges": diverges, "stops": stops, "computes": computing, "quiet": quiet, "net": net, "passed": passed, "faults": faults, "own-identity": other_user, "strangers": strangers, "seeds": seeds, "children": children,
-    "units": units, "sanitizers": sanitizers, "addresses": addresses, "few": few_addresses, "growing": growing, "long": long_log, "in-turn": in_turn,
+    statuses, "stuck": stuck, "diverges": diverges, "stops": stops, "computes": computing, "quiet": quiet, "net":
+    net, "passed": passed, "faults": faults, "own-identity": other_user, "strangers": strangers, "seeds": seeds,
+    "children": children,
+    "units": units, "sanitizers": sanitizers, "addresses": addresses, "few": few_addresses, "growing": growing,
+    "long": long_log, "in-turn": in_turn,
     "numbers": closed_numbers, "hang": hang_of_pigz, "server": server, "web": web_server}
