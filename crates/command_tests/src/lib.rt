@@ -13,8 +13,6 @@ mod draws;
 #[cfg(test)]
 mod faults;
 #[cfg(test)]
-mod generated;
-#[cfg(test)]
 mod hosts;
 #[cfg(test)]
 mod json_lines;

@@ -3,7 +3,7 @@ ghost use Rattle.commands.specs.declared.record.NotCreated.TheVariants as not_cr
 ghost use Rattle.recorder.specs.Each.{IsUnused};
 
 use crate::devices::{Sources, Text, sources};
-use crate::told::{Said, replay, with_turns};
+use crate::told::{Said, replay, replay_by_threads, with_turns};
 use commands::{LogTo, NewLog, NotCreated, RecordOptions, Recorded, record_over};
 use host_doors::Outside;
 use input_log::FileSink;
@@ -128,7 +128,19 @@ pub(crate) fn replayed(rt: HostRuntime, path: &str, scripts: &[&str]) -> io::Res
     replay(rt.alloc(), true, log, sources)
 }
 
-/// Whether a run over the host comes to its end, and the replay of its log tells the same.
+/// The same of `replay --threads --turns`.
+fn replayed_by_threads(
+    rt: &(impl Threads + Wait + Sync),
+    host: HostRuntime,
+    path: &str,
+    scripts: &[&str],
+) -> io::Result<Said> {
+    let sources = sources(host.alloc(), scripts)?;
+    let log = Text::File(fs::open(&host, path)?);
+    replay_by_threads(rt, host.alloc(), log, sources)
+}
+
+/// Whether a run over the host comes to its end, and both replays of its log say the same.
 pub(crate) fn is_replayed(
     rt: &(impl Threads + Wait + Sync),
     settings: Settings,
@@ -136,5 +148,9 @@ pub(crate) fn is_replayed(
     scripts: &[&str],
 ) -> io::Result<bool> {
     let told = record_by_host(rt, settings, log, scripts)?;
-    Ok(told.status == 0 && replayed(log.host, log.path, scripts)?.is_as(&told))
+    Ok(
+        told.status == 0
+            && replayed(log.host, log.path, scripts)?.is_as(&told)
+            && replayed_by_threads(rt, log.host, log.path, scripts)?.is_as(&told),
+    )
 }

@@ -6,8 +6,6 @@
 #[cfg(test)]
 mod full_clock;
 #[cfg(test)]
-mod generated;
-#[cfg(test)]
 mod hostile;
 #[cfg(test)]
 mod outcomes;

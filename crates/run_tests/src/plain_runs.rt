@@ -84,15 +84,6 @@ pub(crate) fn scripts(alloc: Global, texts: &[&str]) -> Result<Vec<Script>, Scri
     Ok(scripts)
 }
 
-// The same of texts that were made.
-pub(crate) fn parsed(alloc: Global, texts: &[Vec<u8>]) -> Result<Vec<Script>, ScriptFault> {
-    let mut scripts = Vec::new(alloc);
-    for text in texts {
-        scripts.push(parse(alloc, text.as_slice())?)?;
-    }
-    Ok(scripts)
-}
-
 // The plain run of these scripts, for which this comes.
 pub(crate) fn plain(
     alloc: Global,
