@@ -5,6 +5,7 @@ pub mod ListCounts
 pub mod Varied
 pub mod Delayed
 pub mod Observations
+pub mod Numbers
 pub mod Groups
 pub mod Faults
 pub mod Runs

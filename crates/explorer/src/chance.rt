@@ -33,7 +33,7 @@ impl Chance {
 }
 
 // A number mixed into a hash.
-fn mixed(hash: u64, number: u64) -> u64
+pub(crate) fn mixed(hash: u64, number: u64) -> u64
     ensures { result ≡ mixed hash number }
 {
     SplitMix64::seed_from_u64(hash ^ number).next_u64()

@@ -1,7 +1,10 @@
-ghost use Rattle.std.specs.Prelude.{◌≡◌, ◌<◌, ◌+◌, ◌^◌, [], All, List, OnErr, OnOk};
+ghost use Rattle.std.specs.Prelude.{◌≡◌, ◌↔◌, ◌<◌, ◌+◌, ◌^◌, [], All, IsTrue, List, OnErr, OnOk};
+ghost use Rattle.std.specs.Prelude.{length, map, slice_index_or};
 ghost use Rattle.explorer.specs.Groups.{Joins, runs_of};
+ghost use Rattle.explorer.specs.Numbers.{number_in, number_of};
 ghost use Rattle.explorer.specs.declared.groups.Group.{Group};
 
+use crate::numbers::number_of;
 use crate::observation::Observation;
 use std::alloc::{AllocError, Global};
 use std::marker::Model;
@@ -20,10 +23,14 @@ pub struct Group {
 #[derive(Debug, Drop)]
 pub struct Groups {
     groups: Vec<Group>,
+    // The number of what was seen in each, so that few are compared.
+    numbers: Vec<u64>,
 }
 
 impl Model for Groups {
     ghost Value = { List Group };
+
+    ghost invariant = { λ g. g.numbers.items ≡ map number_in g.groups.items };
 
     ghost view = { λ g. g.groups.items };
 }
@@ -35,6 +42,7 @@ impl Groups {
     {
         Groups {
             groups: Vec::new(alloc),
+            numbers: Vec::new(alloc),
         }
     }
 
@@ -71,8 +79,9 @@ impl Groups {
         ensures ok { OnOk result (Joins case observation self.old self.new) }
         ensures err { OnErr result (self.new ≡ self.old) }
     {
+        let number = number_of(&observation.seen);
         for i in 0..self.groups.len() {
-            if self.groups[i].observation.is_same(&observation) {
+            if self.has_seen(i, number, &observation) {
                 self.groups[i].runs += 1;
                 return Ok(());
             }
@@ -82,6 +91,21 @@ impl Groups {
             runs: 1,
             observation,
         })?;
+        if self.numbers.push(number).is_err() {
+            let _ = self.groups.pop();
+            return Err(AllocError);
+        }
         Ok(())
+    }
+
+    // Whether the same was seen in the group at this place, where this is its number.
+    fn has_seen(&self, place: usize, number: u64, observation: &Observation) -> bool
+        requires inside { place < length self.now }
+        requires its { number ≡ number_of observation.now.seen }
+        ensures { (d : Group)
+            → let group = slice_index_or self.now place d in
+            IsTrue result ↔ (group.observation ≡ observation.now) }
+    {
+        self.numbers[place] == number && self.groups[place].observation.is_same(observation)
     }
 }
