@@ -16,6 +16,9 @@
 #include <time.h>
 #include <unistd.h>
 
+/* For how many milliseconds at least a connection waits for its listener's system. */
+enum { LEAST_WAIT = 10 };
+
 uint32_t detio_host_error(int error) {
   switch (error) {
   case ENOENT: return DETIO_ENOENT;
@@ -56,7 +59,38 @@ static int gives_up(int opened) {
   return -1;
 }
 
-static int open_file(const detio_call *call, const char *path) {
+static int64_t milliseconds_now(void) {
+  struct timespec now = {0};
+  clock_gettime(CLOCK_MONOTONIC, &now);
+  return (int64_t)now.tv_sec * 1000 + now.tv_nsec / 1000000;
+}
+
+/* Whether a descriptor is ready within so many milliseconds, whatever signals come. */
+static bool ready_within(int at, short events, unsigned wait) {
+  int64_t end = milliseconds_now() + wait;
+  for (;;) {
+    struct pollfd it = {.fd = at, .events = events};
+    int64_t left = end - milliseconds_now();
+    int found = poll(&it, 1, left > 0 ? (int)left : 0);
+    if (found > 0) return true;
+    if (found == 0 || errno != EINTR) return false;
+  }
+}
+
+/* The kernel waits for the other side of a FIFO without a bound. Here it is opened at once to be read, and to be
+ * written once somebody reads it, or not at all. */
+static int open_within(const char *path, int how, unsigned wait) {
+  static const struct timespec pause = {.tv_nsec = 1000000};
+  struct stat status;
+  if (stat(path, &status) < 0 || !S_ISFIFO(status.st_mode)) return open(path, how, 0666);
+  for (int64_t end = milliseconds_now() + wait;; nanosleep(&pause, NULL)) {
+    int opened = open(path, how | O_NONBLOCK, 0666);
+    if (opened >= 0 || errno != ENXIO) return opened;
+    if (milliseconds_now() >= end) return errno = ETIMEDOUT, -1;
+  }
+}
+
+static int open_file(const detio_call *call, const char *path, unsigned wait) {
   bool writes = call->choice != DETIO_READ_ONLY;
   bool appends = writes && (call->flags & DETIO_APPEND);
   bool cuts = writes && (call->flags & DETIO_TRUNCATE);
@@ -64,7 +98,7 @@ static int open_file(const detio_call *call, const char *path) {
   if (appends) how |= O_APPEND;
   if (writes && (call->flags & DETIO_CREATE)) how |= O_CREAT;
   if (cuts && !appends) how |= O_TRUNC;
-  int opened = open(path, how, 0666);
+  int opened = open_within(path, how, wait);
   if (opened < 0 && errno == ENOENT && !writes && (call->flags & DETIO_CREATE)) {
     /* It is made by itself, and opened again. */
     int made = open(path, O_WRONLY | O_CREAT | O_CLOEXEC, 0666);
@@ -105,28 +139,53 @@ static int listen_at(uint64_t port, uint64_t *found) {
 static int connect_to(uint64_t port, unsigned wait) {
   if (port > 65535) return errno = EINVAL, -1;
   struct sockaddr_in address = loopback((uint16_t)port);
-  int stream = socket(AF_INET, SOCK_STREAM | SOCK_CLOEXEC, 0);
+  int stream = socket(AF_INET, SOCK_STREAM | SOCK_CLOEXEC | SOCK_NONBLOCK, 0);
   if (stream < 0) return -1;
-  if (connect(stream, (struct sockaddr *)&address, sizeof address) < 0) return gives_up(stream);
+  if (connect(stream, (struct sockaddr *)&address, sizeof address) < 0) {
+    int error = ETIMEDOUT;
+    socklen_t length = sizeof error;
+    if (errno != EINPROGRESS) return gives_up(stream);
+    if (ready_within(stream, POLLOUT, wait < LEAST_WAIT ? LEAST_WAIT : wait) &&
+        getsockopt(stream, SOL_SOCKET, SO_ERROR, &error, &length) < 0)
+      return gives_up(stream);
+    if (error) return errno = error, gives_up(stream);
+  }
   return bounded(stream, wait);
 }
 
 /* A connection of a listener that never waits by itself. */
 static int accept_within(int listener, unsigned wait_to_accept, unsigned wait) {
-  struct pollfd ready = {.fd = listener, .events = POLLIN};
-  if (wait_to_accept) (void)poll(&ready, 1, (int)wait_to_accept);
+  if (wait_to_accept) (void)ready_within(listener, POLLIN, wait_to_accept);
   int stream = accept4(listener, NULL, NULL, SOCK_CLOEXEC);
   return stream < 0 ? stream : bounded(stream, wait);
 }
 
-static bool is_stream(int door) {
+enum door_kind { FILE_DOOR, STREAM_DOOR, FIFO_DOOR };
+
+/* What a door is: a FIFO is one that open_within opened. */
+static enum door_kind kind_of(int door) {
   struct stat status;
-  return fstat(door, &status) == 0 && S_ISSOCK(status.st_mode);
+  if (fstat(door, &status) < 0) return FILE_DOOR;
+  if (S_ISSOCK(status.st_mode)) return STREAM_DOOR;
+  return S_ISFIFO(status.st_mode) && (fcntl(door, F_GETFL) & O_NONBLOCK) ? FIFO_DOOR : FILE_DOOR;
 }
 
-static ssize_t read_once(int door, bool waits, uint8_t *data, size_t count) {
-  if (!is_stream(door)) return read(door, data, count);
-  return recv(door, data, count, waits ? 0 : MSG_DONTWAIT);
+/* Whether a FIFO cannot go on within its wait: that is EAGAIN. */
+static bool stays(int door, short events, unsigned wait) {
+  if (ready_within(door, events, wait)) return false;
+  errno = EAGAIN;
+  return true;
+}
+
+/* A wait of 0 is none. */
+static ssize_t read_once(int door, unsigned wait, uint8_t *data, size_t count) {
+  enum door_kind kind = kind_of(door);
+  if (kind == FIFO_DOOR && stays(door, POLLIN, wait)) return -1;
+  if (kind != STREAM_DOOR) return read(door, data, count);
+  for (int64_t end = milliseconds_now() + wait;;) {
+    ssize_t done = recv(door, data, count, wait ? 0 : MSG_DONTWAIT);
+    if (done >= 0 || errno != EINTR || milliseconds_now() >= end) return done;
+  }
 }
 
 /* A write to a FIFO that nobody reads fails: the signal that comes of it is blocked, and taken away, unless there was
@@ -150,9 +209,14 @@ static ssize_t write_quietly(int door, const uint8_t *data, size_t count) {
   return done;
 }
 
-static ssize_t write_once(int door, bool waits, const uint8_t *data, size_t count) {
-  if (!is_stream(door)) return write_quietly(door, data, count);
-  return send(door, data, count, MSG_NOSIGNAL | (waits ? 0 : MSG_DONTWAIT));
+static ssize_t write_once(int door, unsigned wait, const uint8_t *data, size_t count) {
+  enum door_kind kind = kind_of(door);
+  if (kind == FIFO_DOOR && stays(door, POLLOUT, wait)) return -1;
+  if (kind != STREAM_DOOR) return write_quietly(door, data, count);
+  for (int64_t end = milliseconds_now() + wait;;) {
+    ssize_t done = send(door, data, count, MSG_NOSIGNAL | (wait ? 0 : MSG_DONTWAIT));
+    if (done >= 0 || errno != EINTR || milliseconds_now() >= end) return done;
+  }
 }
 
 static int64_t seek(int door, const detio_call *call) {
@@ -176,7 +240,7 @@ static void reach_opening(const detio_outside *asked, int door, unsigned wait, u
   if (asked->kind == DETIO_ASKS_OPEN) {
     if (asked->length < room && !memchr(data, 0, asked->length)) {
       data[asked->length] = 0;
-      opened = open_file(&asked->call, (const char *)data);
+      opened = open_file(&asked->call, (const char *)data, wait);
     }
   } else if (asked->kind == DETIO_ASKS_LISTEN) {
     opened = listen_at(asked->asked, &value);
@@ -196,14 +260,14 @@ static void reach_opening(const detio_outside *asked, int door, unsigned wait, u
 void detio_host_reach(const detio_outside *asked, bool goes, uint64_t door, unsigned wait, uint8_t *data, size_t room,
                       detio_outcome *came) {
   if (wait > DETIO_WAIT_MOST) wait = DETIO_WAIT_MOST;
-  bool waits = asked->waits && wait;
+  unsigned longest = asked->waits ? wait : 0;
   int at = goes ? (int)door : -1;
   int64_t done = -1;
   memset(came, 0, sizeof *came);
   errno = EINVAL;
   switch (asked->kind) {
-  case DETIO_ASKS_READ: done = asked->asked <= room ? read_once(at, waits, data, (size_t)asked->asked) : -1; break;
-  case DETIO_ASKS_WRITE: done = write_once(at, waits, data, asked->length); break;
+  case DETIO_ASKS_READ: done = asked->asked <= room ? read_once(at, longest, data, (size_t)asked->asked) : -1; break;
+  case DETIO_ASKS_WRITE: done = write_once(at, longest, data, asked->length); break;
   case DETIO_ASKS_SEEK: done = seek(at, &asked->call); break;
   case DETIO_ASKS_SHUTDOWN: done = shut(at, &asked->call); break;
   case DETIO_ASKS_CLOSE:

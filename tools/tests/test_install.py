@@ -18,6 +18,7 @@ PLACES = {
 }
 LIBRARY = {
     "lib/libdetio.a": 0o644,
+    "lib/libdetio.so.1": 0o755,
     "lib/libdetio.so": 0o755,
     "lib/pkgconfig/detio.pc": 0o644,
     "include/detio.h": 0o644,
@@ -76,6 +77,7 @@ class Install(unittest.TestCase):
 
     def test_the_library_is_put_below_the_prefix(self) -> None:
         self.assert_installed(LIBRARY, "--unproved", "--library")
+        self.assertEqual(os.readlink(self.package / "opt/detio/lib/libdetio.so"), "libdetio.so.1")
         self.assertIn("prefix=/opt/detio\n", (self.package / "opt/detio/lib/pkgconfig/detio.pc").read_text())
 
     def test_the_proved_library_is_put_there(self) -> None:
