@@ -18,11 +18,10 @@ def deposit(io):
 run = detio.Run(deposit, deposit)
 with open('amount.txt', 'w') as file:
     file.write('5')
-print('recorded:', run.record('day.log').check().values)
+print('recorded:', run.record('day.log', force=True).check().values)
 lost = next(it for it in run.explore(range(1, 101)) if max(it.check().values) < 10)
 print('lost a deposit:', lost.values, 'with seed', lost.seed)
-with open('lost.log', 'wb') as file:
-    file.write(lost.log)
+kept = lost.save()  # seed-1.log, in this folder
 os.remove('amount.txt')
 print('replayed:', run.replay('day.log').check().values)
-print('replayed:', run.replay('lost.log', seed=lost.seed).check().values)
+print('replayed:', run.replay(kept).check().values)

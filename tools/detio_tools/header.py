@@ -30,11 +30,21 @@ CTYPES = {
     "c_size_t": "size_t", "c_uint32": "uint32_t", "c_uint64": "uint64_t", "c_int64": "int64_t", "c_bool": "bool",
     "c_void_p": "void *",
 }
+# The words of bindings/python for the names of an enum, each with how the names begin; None: as they are there.
+WORDS = {
+    "ACCESS": ("detio_access", "DETIO_", {"r": "READ_ONLY", "w": "WRITE_ONLY", "r+": "READ_WRITE"}),
+    "WHENCE": ("detio_whence", "DETIO_", None),
+    "SHUT": ("detio_how", "DETIO_SHUT_", None),
+    "FLAGS": ("detio_flags", "DETIO_", None),
+}
+# What bindings/c/detio_threads.c has names for, and the enum of each.
+NAMES = {"detio_error_name": ("detio_error", "DETIO_"), "detio_code_name": ("detio_code", "")}
 # How bindings/python has the types of arguments and results.
 IN_PYTHON = {
-    "void": "None", "size_t": "size", "uint32_t": "u32", "uint64_t": "ctypes.c_uint64", "unsigned": "ctypes.c_uint",
+    "void": "None", "size_t": "size", "uint32_t": "u32", "uint64_t": "u64", "unsigned": "ctypes.c_uint",
     "detio_run *": "pointer", "void *": "pointer", "uint8_t *": "pointer", "const void *": "ctypes.c_char_p",
     "const uint8_t *": "ctypes.c_char_p", "const char *": "ctypes.c_char_p", "size_t *": "ctypes.POINTER(size)",
+    "char *": "pointer", "uint64_t *": "ctypes.POINTER(u64)",
     **{f"{mode}{of} *": f"ctypes.POINTER({name})" for name, of in RUST.items() for mode in ("", "const ")},
 }
 # Definitions whose equations give numbers, each with its file, the enum of the header, and how a name begins there.
@@ -208,6 +218,8 @@ class Comparison:
         self.rust_numbers(header)
         self.python(header + threads)
         self.python_functions(header + threads)
+        self.python_numbers(header + threads)
+        self.names(header)
         return self.faults
 
     def functions(self, header: str) -> None:
@@ -305,3 +317,37 @@ class Comparison:
             known = there.get(name)
             wanted = known and (IN_PYTHON.get(known[0], "?"), [IN_PYTHON.get(it, "?") for it in known[1]])
             self.same(f"{path}: {name}", (result, re.findall(r"[\w.]+(?:\(\w+\))?", types)), wanted)
+
+    def python_numbers(self, header: str) -> None:
+        """The words, the codes and the constants of bindings/python are those of the enums, and its ends those of C."""
+        path, known = "bindings/python/detio.py", enums(header)
+        text = self.read(path)
+        for name, (enum, front, renamed) in WORDS.items():
+            body = re.search(rf"^{name} = {{(.*?)}}", text, flags=re.M | re.S)
+            pairs = re.findall(r"'([^']+)': (\d+)", body[1] if body else "")
+            found = [(front + (renamed or {}).get(it, it.upper()), int(value)) for it, value in pairs]
+            self.same(f"{path}: {name}", found, known.get(enum))
+        codes = re.search(r"^CODES = {(.*?)}", text, flags=re.M | re.S)
+        refused = [value for _, value in known.get("detio_code", []) if value not in [it for _, it in SUCCESS]]
+        self.same(f"{path}: CODES", [int(it) for it in re.findall(r"(\d+): '", codes[1] if codes else "")], refused)
+        numbered = {name: value for listed in known.values() for name, value in listed}
+        for name, value in re.findall(r"^([A-Z_]+) = (\d+)$", text, flags=re.M):
+            if f"DETIO_{name}" in numbered:
+                self.same(f"{path}: {name}", int(value), numbered[f"DETIO_{name}"])
+        ended = re.search(r"^ENDED = \[(.*?)\]", text, flags=re.M | re.S)
+        there = self.listed("detio_end_name")
+        self.same(f"{path}: ENDED", re.findall(r"'([^']+)'", ended[1] if ended else ""), there)
+        self.same("detio_threads.c: detio_end_name", len(there), len(known.get("detio_how_ended", [])))
+
+    def listed(self, name: str) -> list[str]:
+        """The texts that a function of the driver has."""
+        source = self.read("bindings/c/detio_threads.c")
+        body = re.search(rf"^const char \*{name}\(.*?\n}}", source, flags=re.M | re.S)
+        table = re.search(r"names\[\] = {(.*?)};", body[0] if body else "", flags=re.S)
+        return re.findall(r'"([^"]+)"', table[1] if table else "")
+
+    def names(self, header: str) -> None:
+        """The names that the driver has for errors and codes are those of the enums."""
+        for name, (enum, front) in NAMES.items():
+            wanted = [it for it, _ in enums(header).get(enum, [])]
+            self.same(f"detio_threads.c: {name}", [front + it for it in self.listed(name)], wanted)

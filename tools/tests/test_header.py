@@ -5,14 +5,14 @@ import unittest
 
 from detio_tools import header, repository
 
-C, THREADS = "bindings/c/detio.h", "bindings/c/detio_threads.h"
+C, THREADS, DRIVER = "bindings/c/detio.h", "bindings/c/detio_threads.h", "bindings/c/detio_threads.c"
 RAW, RUST, PYTHON = "bindings/rust/src/raw.rs", "bindings/rust/src/lib.rs", "bindings/python/detio.py"
 EVENTS, WORDS = "crates/detio_c/src/events.rt", "crates/c_words/src/words.rt"
 REQUESTS, REPLIES = "crates/c_words/specs/Requests.antt", "crates/c_words/specs/Words.antt"
 ENDS = "crates/detio_c/specs/Ends.antt"
 # What tools/header reads.
 FILES = [
-    C, THREADS, RAW, RUST, PYTHON, EVENTS, WORDS, REQUESTS, REPLIES, ENDS,
+    C, THREADS, DRIVER, RAW, RUST, PYTHON, EVENTS, WORDS, REQUESTS, REPLIES, ENDS,
     "crates/detio_c/src/life.rt", "crates/detio_c/src/handle.rt", "crates/detio_c/specs/Reads.antt",
     "crates/c_words/specs/Calls.antt", "crates/c_words/specs/Faults.antt", "crates/posix_terms/specs/Errors.antt",
 ]
@@ -64,7 +64,25 @@ WRONG = [
      "('room', ctypes.c_size_t)", "('room', ctypes.c_uint32)", f"{PYTHON}: Settings: "),
     ("a struct of Python that is not found", PYTHON,
      "class Reply(ctypes.Structure)", "class Reply(ctypes.Union)", f"{PYTHON}: structs: "),
-    ("an argument of Python of another type", PYTHON, "ctypes.c_uint64])", "u32])", f"{PYTHON}: detio_thread_work: "),
+    ("an argument of Python of another type", PYTHON, "[pointer, size, u64]", "[pointer, size, u32]",
+     f"{PYTHON}: detio_thread_work: "),
+    ("two ways to open exchanged in Python", PYTHON, "'r': 0, 'w': 1", "'r': 1, 'w': 0", f"{PYTHON}: ACCESS: "),
+    ("two places to seek from exchanged in Python", PYTHON, "'current': 1, 'end': 2", "'end': 1, 'current': 2",
+     f"{PYTHON}: WHENCE: "),
+    ("two ways to shut exchanged in Python", PYTHON, "'read': 0, 'write': 1", "'read': 1, 'write': 0",
+     f"{PYTHON}: SHUT: "),
+    ("a flag of another bit in Python", PYTHON, "'exclusive': 2", "'exclusive': 32", f"{PYTHON}: FLAGS: "),
+    ("a code without a text in Python", PYTHON, "12: 'there is no such call', ", "", f"{PYTHON}: CODES: "),
+    ("a constant of Python of another number", PYTHON, "DIVERGED = 16", "DIVERGED = 15", f"{PYTHON}: DIVERGED: "),
+    ("a code of the driver of another number in Python", PYTHON, "MOVED = 32", "MOVED = 33", f"{PYTHON}: MOVED: "),
+    ("two ends in the other order in Python", PYTHON,
+     "'stopped: no memory', 'stopped: the log has no room'", "'stopped: the log has no room', 'stopped: no memory'",
+     f"{PYTHON}: ENDED: "),
+    ("two names of errors in the other order", DRIVER, '"EMFILE",     "ENFILE"', '"ENFILE",     "EMFILE"',
+     "detio_threads.c: detio_error_name: "),
+    ("a name of a code missing", DRIVER, '"DETIO_DIVERGED",    "DETIO_OVER"', '"DETIO_OVER"',
+     "detio_threads.c: detio_code_name: "),
+    ("an end missing", DRIVER, ', "stopped: the log diverged"', "", "detio_threads.c: detio_end_name: "),
     ("a function of Python without its arguments", PYTHON,
      "            ('detio_thread_end', u32, [pointer, size]),\n", "", f"{PYTHON}: functions: "),
 ]
