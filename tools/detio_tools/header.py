@@ -284,11 +284,19 @@ class Comparison:
         return ("const " if lent[1] == "const" else "") + inner + " *"
 
     def rust_numbers(self, header: str) -> None:
-        """The constants of bindings/rust are those of detio.h with the same name: what opens a file."""
-        path, known = "bindings/rust/src/lib.rs", enums(header)
+        """The constants of bindings/rust are those of detio.h with the same name: the words and the kinds of calls."""
+        path, known = "bindings/rust/src/calls.rs", enums(header)
         found = re.findall(r"^pub const (\w+): u32 = (\d+);", self.text(path), flags=re.M)
-        wanted = known.get("detio_access", []) + known.get("detio_flags", [])
+        words = ("detio_access", "detio_flags", "detio_whence", "detio_how")
+        wanted = [it for name in words for it in known.get(name, [])]
         self.same(f"{path}: constants", [("DETIO_" + name, int(number)) for name, number in found], wanted)
+        kinds = re.findall(r"^    pub const (\w+): u32 = (\d+);", self.text(path), flags=re.M)
+        there = [("DETIO_" + name, int(number)) for name, number in kinds]
+        self.same(f"{path}: kinds", there, known.get("detio_call_kind"))
+        path = "bindings/rust/src/lib.rs"
+        numbered = {name: value for listed in known.values() for name, value in listed}
+        for name, value in re.findall(r"^const (\w+): u32 = (\d+);", self.text(path), flags=re.M):
+            self.same(f"{path}: {name}", int(value), numbered.get(f"DETIO_{name}"))
 
     def python(self, header: str) -> None:
         """The structs and the calls of bindings/python are those of the headers."""

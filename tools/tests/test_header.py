@@ -7,12 +7,13 @@ from detio_tools import header, repository
 
 C, THREADS, DRIVER = "bindings/c/detio.h", "bindings/c/detio_threads.h", "bindings/c/detio_threads.c"
 RAW, RUST, PYTHON = "bindings/rust/src/raw.rs", "bindings/rust/src/lib.rs", "bindings/python/detio.py"
+CALLS = "bindings/rust/src/calls.rs"
 EVENTS, WORDS = "crates/detio_c/src/events.rt", "crates/c_words/src/words.rt"
 REQUESTS, REPLIES = "crates/c_words/specs/Requests.antt", "crates/c_words/specs/Words.antt"
 ENDS = "crates/detio_c/specs/Ends.antt"
 # What tools/header reads.
 FILES = [
-    C, THREADS, DRIVER, RAW, RUST, PYTHON, EVENTS, WORDS, REQUESTS, REPLIES, ENDS,
+    C, THREADS, DRIVER, RAW, RUST, CALLS, PYTHON, EVENTS, WORDS, REQUESTS, REPLIES, ENDS,
     "crates/detio_c/src/life.rt", "crates/detio_c/src/handle.rt", "crates/detio_c/specs/Reads.antt",
     "crates/c_words/specs/Calls.antt", "crates/c_words/specs/Faults.antt", "crates/posix_terms/specs/Errors.antt",
 ]
@@ -58,7 +59,13 @@ WRONG = [
     ("a function of Rust that is not there", RAW,
      "fn detio_run_size", "fn detio_run_bytes", f"{RAW}: detio_run_bytes: "),
     ("a field of Rust missing", RAW, "    pub links: u64,\n", "", f"{RAW}: Reply: "),
-    ("a constant of Rust of another bit", RUST, "TRUNCATE: u32 = 4", "TRUNCATE: u32 = 8", f"{RUST}: constants: "),
+    ("a constant of Rust of another bit", CALLS, "const TRUNCATE: u32 = 4", "const TRUNCATE: u32 = 8",
+     f"{CALLS}: constants: "),
+    ("a place to seek from missing in Rust", CALLS, "pub const END: u32 = 2;\n", "", f"{CALLS}: constants: "),
+    ("a kind of call of another number in Rust", CALLS, "const PIPE: u32 = 20", "const PIPE: u32 = 21",
+     f"{CALLS}: kinds: "),
+    ("a code of another number in Rust", RUST, "const STOPPED: u32 = 5", "const STOPPED: u32 = 6",
+     f"{RUST}: STOPPED: "),
     ("two calls of Python in the other order", PYTHON, "pread pwrite", "pwrite pread", f"{PYTHON}: CALLS: "),
     ("a field of Python of another type", PYTHON,
      "('room', ctypes.c_size_t)", "('room', ctypes.c_uint32)", f"{PYTHON}: Settings: "),

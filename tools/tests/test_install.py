@@ -23,6 +23,7 @@ LIBRARY = {
     "lib/pkgconfig/detio.pc": 0o644,
     "include/detio.h": 0o644,
     "include/detio_threads.h": 0o644,
+    "include/detio.hpp": 0o644,
     "share/detio/detio.py": 0o644,
     "libexec/detio/libdetio_preload.so": 0o755,
     "libexec/detio/detio-launch": 0o755,

@@ -6,7 +6,7 @@
 use detio::{Fault, Run, Settings, Thread};
 
 fn part(io: &mut Thread, delay: u64) -> Result<Vec<u8>, Fault> {
-    if io.number == 0 {
+    if io.number() == 0 {
         let (_reads, writes) = io.pipe()?;
         io.write(writes, b"tea ")?;
         io.work(200)?;
@@ -21,9 +21,9 @@ fn part(io: &mut Thread, delay: u64) -> Result<Vec<u8>, Fault> {
 fn main() -> Result<(), Fault> {
     let run = Run::record(&Settings::of(2), 10)?;
     let seen = run.play(|io| part(io, 50));
-    let (ended, log) = run.finish()?;
+    let ended = run.finish()?;
     println!("recorded: {:?}, ended {}", String::from_utf8_lossy(seen[1].as_ref().unwrap()), ended.how);
-    let replayed = Run::replay(&log)?;
+    let replayed = Run::replay(&ended.log)?;
     let again = replayed.play(|io| part(io, 50));
     println!("replayed: {:?}", String::from_utf8_lossy(again[1].as_ref().unwrap()));
     assert!(seen == again);

@@ -10,23 +10,25 @@
 //!     let file = io.open(b"/a", detio::READ_WRITE, detio::CREATE)?;
 //!     io.write(file, b"hello")
 //! });
-//! let (ended, log) = run.finish()?;
-//! # Ok::<(), detio::Fault>(())
+//! let log = run.finish()?.check()?.log;
+//! # Ok::<(), Box<dyn std::error::Error>>(())
 //! ```
+//!
+//! However a run is left, it is stopped, its threads are joined, and it is freed.
+mod calls;
 mod raw;
+pub mod testing;
 
 use std::cell::UnsafeCell;
+use std::ffi::c_char;
 use std::fmt;
+use std::fs::{File, OpenOptions};
+use std::io::Write;
+use std::path::Path;
+use std::sync::Mutex;
 
-pub const READ_ONLY: u32 = 0;
-pub const WRITE_ONLY: u32 = 1;
-pub const READ_WRITE: u32 = 2;
-
-pub const CREATE: u32 = 1;
-pub const EXCLUSIVE: u32 = 2;
-pub const TRUNCATE: u32 = 4;
-pub const APPEND: u32 = 8;
-pub const NONBLOCK: u32 = 16;
+pub use calls::*;
+pub use raw::{Call, Reply, Settings};
 
 /// The most bytes of a read or a write.
 pub const LARGEST: usize = 32767;
@@ -34,7 +36,12 @@ pub const LARGEST: usize = 32767;
 /// The longest wait for a peer, in milliseconds.
 pub const LONGEST_WAIT: u32 = 60_000;
 
-pub use raw::{Call, RunEnd, Settings};
+/// Below which the delays of a seed are, unless another reach is given.
+pub const REACH: u64 = 30;
+
+const STOPPED: u32 = 5;
+const STOP_MEMORY: u32 = 1;
+const FAILURE: u32 = 7;
 
 impl Settings {
     /// So many threads, with the usual patience and door cost, and a log with room for 4 MiB.
@@ -50,13 +57,16 @@ pub enum Fault {
     Failed(&'static str),
     /// The run cannot go on for this thread: a code of `detio.h`.
     Stopped(u32),
+    /// The file of the log could not be made or written.
+    Log(std::io::ErrorKind),
 }
 
 impl fmt::Display for Fault {
     fn fmt(&self, out: &mut fmt::Formatter) -> fmt::Result {
         match self {
             Fault::Failed(name) => write!(out, "{name}"),
-            Fault::Stopped(code) => write!(out, "the run is stopped: code {code}"),
+            Fault::Stopped(code) => write!(out, "the run cannot go on: {} (code {code})", raw::code_name(*code)),
+            Fault::Log(kind) => write!(out, "the log could not be written: {kind}"),
         }
     }
 }
@@ -67,10 +77,49 @@ fn done(code: u32) -> Result<(), Fault> {
     if code == 0 { Ok(()) } else { Err(Fault::Stopped(code)) }
 }
 
+/// How a run ended, and its log. Where a log ended or diverged, `thread` is the thread for which it did, and `strayed`
+/// says what it asked, and what the log has.
+#[derive(Clone, Debug)]
+pub struct Ended {
+    pub how: u32,
+    pub thread: usize,
+    pub strayed: String,
+    pub log: Vec<u8>,
+}
+
+impl Ended {
+    /// Refuses each end but that of all threads.
+    pub fn check(self) -> Result<Ended, NotEnded> {
+        if self.how == 0 { Ok(self) } else { Err(NotEnded(self)) }
+    }
+}
+
+/// A run that did not end.
+#[derive(Clone, Debug)]
+pub struct NotEnded(pub Ended);
+
+impl fmt::Display for NotEnded {
+    fn fmt(&self, out: &mut fmt::Formatter) -> fmt::Result {
+        write!(out, "{}", raw::end_name(self.0.how))?;
+        if self.0.strayed.is_empty() { Ok(()) } else { write!(out, ": {}", self.0.strayed) }
+    }
+}
+
+impl std::error::Error for NotEnded {}
+
+/// The file of a log, and how many bytes of it are there.
+struct Keeper {
+    file: File,
+    kept: usize,
+    fault: Option<Fault>,
+}
+
 /// A run, or a replay, of threads.
 pub struct Run {
     place: Box<[UnsafeCell<u128>]>,
     threads: usize,
+    seed: Option<(u64, u64)>,
+    keeper: Option<Mutex<Keeper>>,
 }
 
 // The driver holds a lock round each of its calls.
@@ -78,10 +127,21 @@ unsafe impl Sync for Run {}
 unsafe impl Send for Run {}
 
 impl Run {
-    /// A run begins. Streams and accepts wait for their peer for so many milliseconds at a time, 0 to [`LONGEST_WAIT`]:
-    /// a longer wait is refused by code 13.
+    /// A run begins. A call waits for its peer for so many milliseconds at a time, 0 to [`LONGEST_WAIT`]: a longer wait
+    /// is refused by code 13.
     pub fn record(settings: &Settings, wait: u32) -> Result<Run, Fault> {
         Run::begun(settings.threads, |place| unsafe { raw::detio_run_begin(place, settings, wait) })
+    }
+
+    /// The same, with its log in a file: what came from outside is there before a function goes on. A file that is
+    /// there is kept, unless `force` is true. Where the log cannot be written, the run is stopped.
+    pub fn record_to(settings: &Settings, wait: u32, path: &Path, force: bool) -> Result<Run, Fault> {
+        let mut run = Run::record(settings, wait)?;
+        let mut how = OpenOptions::new();
+        how.write(true).create(force).create_new(!force).truncate(force);
+        let file = how.open(path).map_err(|it| Fault::Log(it.kind()))?;
+        run.keeper = Some(Mutex::new(Keeper { file, kept: 0, fault: None }));
+        Ok(run)
     }
 
     /// A replay of a log begins, for as many threads as the log has.
@@ -90,36 +150,56 @@ impl Run {
         Run::begun(threads, |place| unsafe { raw::detio_run_replay(place, log.as_ptr(), log.len()) })
     }
 
+    /// Each thread works before each call for a time below `reach` that the seed says. A replay of such a run takes the
+    /// same seed and reach.
+    pub fn with_seed(mut self, seed: u64, reach: u64) -> Run {
+        self.seed = Some((seed, reach.max(1)));
+        self
+    }
+
     fn begun(threads: usize, begin: impl FnOnce(*mut raw::Place) -> u32) -> Result<Run, Fault> {
         let words = unsafe { raw::detio_run_size() }.div_ceil(16);
-        let run = Run { place: (0..words).map(|_| UnsafeCell::new(0)).collect(), threads };
-        match begin(run.at()) {
-            0 => Ok(run),
-            code => {
-                std::mem::forget(run);
-                Err(Fault::Stopped(code))
-            }
-        }
+        let place: Box<[UnsafeCell<u128>]> = (0..words).map(|_| UnsafeCell::new(0)).collect();
+        done(begin(place.as_ptr() as *mut raw::Place))?;
+        Ok(Run { place, threads, seed: None, keeper: None })
     }
 
     fn at(&self) -> *mut raw::Place {
         self.place.as_ptr() as *mut raw::Place
     }
 
-    /// Plays this function in each thread: what each returned.
+    /// No thread goes on: each call that waits, and each that is made later, is refused by code 5.
+    pub fn stop(&self) {
+        unsafe { raw::detio_run_stop(self.at(), STOP_MEMORY, 0) }
+    }
+
+    /// Plays this function in each thread: what each returned. Where one panics, the others go on, and the panic comes
+    /// out here.
     pub fn play<T: Send>(&self, function: impl Fn(&mut Thread) -> T + Sync) -> Vec<T> {
-        std::thread::scope(|scope| {
-            let function = &function;
-            let started: Vec<_> = (0..self.threads)
-                .map(|number| {
-                    scope.spawn(move || {
-                        let mut thread = Thread { run: self, number, data: vec![0; LARGEST] };
-                        function(&mut thread)
-                    })
-                })
-                .collect();
-            started.into_iter().map(|it| it.join().expect("a thread panicked")).collect()
-        })
+        let function = &function;
+        let mut panic = None;
+        let values = std::thread::scope(|scope| {
+            let mut started = Vec::new();
+            for number in 0..self.threads {
+                let play = move || {
+                    let mut thread = Thread { run: self, number, data: vec![0; LARGEST], made: 0 };
+                    function(&mut thread)
+                };
+                match std::thread::Builder::new().spawn_scoped(scope, play) {
+                    Ok(it) => started.push(it),
+                    Err(why) => {
+                        self.stop();
+                        panic!("thread {number} of the run could not start: {why}");
+                    }
+                }
+            }
+            let joined: Vec<_> = started.into_iter().map(|it| it.join()).collect();
+            joined.into_iter().filter_map(|it| it.map_err(|why| panic.get_or_insert(why)).ok()).collect()
+        });
+        match panic {
+            None => values,
+            Some(why) => std::panic::resume_unwind(why),
+        }
     }
 
     /// What the log has so far, from this place on.
@@ -132,12 +212,46 @@ impl Run {
         Ok(bytes)
     }
 
+    /// Writes what the log has to its file.
+    fn keep(&self) -> Result<(), Fault> {
+        let Some(keeper) = &self.keeper else { return Ok(()) };
+        let mut it = keeper.lock().unwrap_or_else(|it| it.into_inner());
+        if let Some(fault) = it.fault {
+            return Err(fault);
+        }
+        let more = self.log(it.kept)?;
+        if let Err(why) = it.file.write_all(&more) {
+            it.fault = Some(Fault::Log(why.kind()));
+            self.stop();
+            return Err(Fault::Log(why.kind()));
+        }
+        it.kept += more.len();
+        Ok(())
+    }
+
+    fn line(&self, said: impl FnOnce(*mut raw::Place, *mut c_char, usize) -> usize) -> String {
+        let mut line = [0_u8; 400];
+        let length = said(self.at(), line.as_mut_ptr().cast(), line.len());
+        String::from_utf8_lossy(&line[..length]).into_owned()
+    }
+
+    /// Who waits for whom, where no thread came for so many milliseconds; else nothing.
+    pub fn still(&self, milliseconds: u32) -> String {
+        self.line(|place, line, room| unsafe { raw::detio_run_still(place, milliseconds, line, room) })
+    }
+
+    /// Where a replay stopped: what the thread asked, and what the log has; else nothing.
+    pub fn strayed(&self) -> String {
+        self.line(|place, line, room| unsafe { raw::detio_run_strayed(place, line, room) })
+    }
+
     /// The run is over: how it ended, and its log.
-    pub fn finish(self) -> Result<(RunEnd, Vec<u8>), Fault> {
-        let mut ended = RunEnd::default();
+    pub fn finish(self) -> Result<Ended, Fault> {
+        let mut ended = raw::RunEnd::default();
         done(unsafe { raw::detio_run_finish(self.at(), &mut ended) })?;
-        let log = self.log(0)?;
-        Ok((ended, log))
+        self.keep()?;
+        let (strayed, log) = (self.strayed(), self.log(0)?);
+        Ok(Ended { how: ended.how, thread: ended.thread, strayed, log })
     }
 }
 
@@ -150,61 +264,58 @@ impl Drop for Run {
 /// What a function makes its calls by. The thread ends with it.
 pub struct Thread<'a> {
     run: &'a Run,
-    /// From 0.
-    pub number: usize,
+    number: usize,
     data: Vec<u8>,
+    made: u64,
 }
 
 impl Thread<'_> {
+    /// From 0.
+    pub fn number(&self) -> usize {
+        self.number
+    }
+
     /// Works for so many units of the thread's clock, so that others come first meanwhile.
     pub fn work(&mut self, units: u64) -> Result<(), Fault> {
         done(unsafe { raw::detio_thread_work(self.run.at(), self.number, units) })
     }
 
+    /// For how many units the thread works before its next call, by the seed.
+    fn delay(&mut self) -> Option<u64> {
+        let (seed, reach) = self.run.seed?;
+        self.made += 1;
+        let mut drawn = seed ^ (self.number as u64) << 56 ^ self.made.wrapping_mul(0x9e37_79b9_7f4a_7c15);
+        drawn = (drawn ^ drawn >> 30).wrapping_mul(0xbf58_476d_1ce4_e5b9);
+        drawn = (drawn ^ drawn >> 27).wrapping_mul(0x94d0_49bb_1331_11eb);
+        Some((drawn ^ drawn >> 31) % reach)
+    }
+
     /// Any call, by its words (`detio.h`); of a read the bytes are in `bytes`.
-    pub fn call(&mut self, call: Call, text: &[u8], second: &[u8]) -> Result<raw::Reply, Fault> {
-        let mut reply = raw::Reply::default();
-        done(unsafe {
+    pub fn call(&mut self, call: Call, text: &[u8], second: &[u8]) -> Result<Reply, Fault> {
+        let mut reply = Reply::default();
+        if let Some(units) = self.delay() {
+            self.work(units)?;
+        }
+        let code = unsafe {
             raw::detio_thread_call(
                 self.run.at(), self.number, &call, text.as_ptr(), text.len(), second.as_ptr(), second.len(), &mut reply,
                 self.data.as_mut_ptr(), self.data.len(),
             )
-        })?;
-        if reply.kind == 7 {
+        };
+        let kept = self.run.keep();
+        if code != STOPPED || kept.is_ok() {
+            done(code)?;
+        }
+        kept?;
+        if reply.kind == FAILURE {
             return Err(Fault::Failed(raw::error_name(reply.error)));
         }
         Ok(reply)
     }
 
     /// The bytes of the last read.
-    pub fn bytes(&self, reply: &raw::Reply) -> &[u8] {
+    pub fn bytes(&self, reply: &Reply) -> &[u8] {
         &self.data[..reply.count as usize]
-    }
-
-    pub fn open(&mut self, path: &[u8], access: u32, flags: u32) -> Result<i64, Fault> {
-        Ok(self.call(Call { kind: 1, choice: access, flags, ..Call::default() }, path, &[])?.first)
-    }
-
-    pub fn host_open(&mut self, path: &[u8], access: u32, flags: u32) -> Result<i64, Fault> {
-        Ok(self.call(Call { kind: 23, choice: access, flags, ..Call::default() }, path, &[])?.first)
-    }
-
-    pub fn close(&mut self, descriptor: i64) -> Result<(), Fault> {
-        self.call(Call { kind: 2, descriptor, ..Call::default() }, &[], &[]).map(|_| ())
-    }
-
-    pub fn read(&mut self, descriptor: i64, count: usize) -> Result<&[u8], Fault> {
-        let reply = self.call(Call { kind: 3, descriptor, number: count as i64, ..Call::default() }, &[], &[])?;
-        Ok(self.bytes(&reply))
-    }
-
-    pub fn write(&mut self, descriptor: i64, bytes: &[u8]) -> Result<u64, Fault> {
-        Ok(self.call(Call { kind: 4, descriptor, ..Call::default() }, bytes, &[])?.count)
-    }
-
-    pub fn pipe(&mut self) -> Result<(i64, i64), Fault> {
-        let reply = self.call(Call { kind: 20, ..Call::default() }, &[], &[])?;
-        Ok((reply.first, reply.second))
     }
 }
 

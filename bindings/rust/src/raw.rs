@@ -57,18 +57,36 @@ extern "C" {
     ) -> u32;
     pub fn detio_thread_work(run: *mut Place, thread: usize, units: u64) -> u32;
     pub fn detio_thread_end(run: *mut Place, thread: usize) -> u32;
+    pub fn detio_run_stop(run: *mut Place, cause: u32, thread: usize);
+    pub fn detio_run_still(run: *mut Place, milliseconds: c_uint, line: *mut c_char, room: usize) -> usize;
+    pub fn detio_run_strayed(run: *mut Place, line: *mut c_char, room: usize) -> usize;
     pub fn detio_run_finish(run: *mut Place, ended: *mut RunEnd) -> u32;
     pub fn detio_run_log(run: *mut Place, from: usize, data: *mut u8, room: usize, length: *mut usize) -> u32;
     pub fn detio_run_free(run: *mut Place);
     pub fn detio_run_size() -> usize;
     fn detio_error_name(error: u32) -> *const c_char;
+    fn detio_code_name(code: u32) -> *const c_char;
+    fn detio_end_name(how: u32) -> *const c_char;
+}
+
+fn name(found: *const c_char) -> &'static str {
+    if found.is_null() {
+        return "";
+    }
+    unsafe { CStr::from_ptr(found) }.to_str().unwrap_or("")
 }
 
 /// The name of an error, as `ENOENT`.
 pub fn error_name(error: u32) -> &'static str {
-    let name = unsafe { detio_error_name(error) };
-    if name.is_null() {
-        return "";
-    }
-    unsafe { CStr::from_ptr(name) }.to_str().unwrap_or("")
+    name(unsafe { detio_error_name(error) })
+}
+
+/// The name of a code, as `DETIO_NO_ROOM`.
+pub fn code_name(code: u32) -> &'static str {
+    name(unsafe { detio_code_name(code) })
+}
+
+/// How a run ended, as `stopped: no memory`.
+pub fn end_name(how: u32) -> &'static str {
+    name(unsafe { detio_end_name(how) })
 }
