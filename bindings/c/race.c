@@ -4,6 +4,7 @@
  *     race record LOG     runs it, and keeps the log
  *     race replay LOG     the same run again
  *     race explore N      under N schedules, each made by a number: says at which a deposit is lost */
+#define _POSIX_C_SOURCE 200809L
 #include "detio_threads.h"
 
 #include <stdio.h>

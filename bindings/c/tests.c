@@ -330,8 +330,10 @@ static void small_buffers_lose_nothing(void) {
   CHECK(ask(&m, 0, (detio_call){.kind = DETIO_PREAD, .number = 9}, NULL) == 0);
   CHECK(detio_settle(&m) == DETIO_DONE);
   CHECK(detio_answer(&m, 0, &reply, data, 4) == DETIO_NO_ROOM);
-  CHECK(detio_answer(&m, 0, &reply, data, 5) == DETIO_DONE);
+  memset(data, 7, sizeof data);
+  CHECK(detio_answer(&m, 0, &reply, data, sizeof data) == DETIO_DONE);
   CHECK(reply.kind == DETIO_DATA && reply.count == 5 && !memcmp(data, "hello", 5));
+  for (size_t i = 5; i < sizeof data; i++) CHECK(data[i] == 7);
   detio_free(&m);
 }
 

@@ -529,10 +529,9 @@ class Result:
         lines += [clock.ljust(7) + ' ' * sum(widths[:thread]) + text for thread, clock, text in rows]
         return '\n'.join(line.rstrip() for line in lines)
 
-    def save(self, folder='.'):
+    def save(self, folder='.', name=''):
         """Writes the log into a folder, under a name that has the seed: the path, for `Run.replay`."""
-        reach = '' if self.reach == REACH else f'-reach-{self.reach}'
-        path = os.path.join(os.fspath(folder), 'run.log' if self.seed is None else f'seed-{self.seed}{reach}.log')
+        path = os.path.join(os.fspath(folder), log_name(self.seed, self.reach, name))
         os.makedirs(folder, exist_ok=True)
         with open(path, 'wb') as file:
             file.write(self.log)
@@ -552,7 +551,14 @@ def shown(value):
     return f'{type(value).__name__}: {value.strerror}' if isinstance(value, OSError) else repr(value)
 
 
-NAMED = re.compile(r'seed-(?P<seed>.+?)(?:-reach-(?P<reach>\d+))?\.log')
+def log_name(seed, reach, name=''):
+    """The name of the file of a log, which says the seed and the reach."""
+    if seed is None:
+        return f'{name or "run"}.log'
+    return (f'{name}-' if name else '') + f'seed-{seed}' + ('' if reach == REACH else f'-reach-{reach}') + '.log'
+
+
+NAMED = re.compile(r'(?:.*-)?seed-(?P<seed>.+?)(?:-reach-(?P<reach>\d+))?\.log')
 
 
 def yields(function):

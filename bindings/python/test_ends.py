@@ -1,5 +1,6 @@
 """Tests of detio.py, of how runs end and what is said of it: python3 test_ends.py, as test_detio.py."""
 
+import itertools
 import os
 import subprocess
 import sys
@@ -11,6 +12,7 @@ import unittest
 from unittest import mock
 
 import detio
+import roles as example
 
 
 def within(seconds, program, *words):
@@ -261,6 +263,7 @@ class Logs(InAFolder):
             run.replay(path, seed=lost.seed + 1)
         far = run.record(seed=3, reach=500)
         self.assertEqual(os.path.basename(far.save()), 'seed-3-reach-500.log')
+        self.assertGreater(max(it.clock for it in far.turns), 200)
         self.assertEqual(run.replay('seed-3-reach-500.log').turns, far.turns)
         self.assertNotEqual(run.replay('seed-3-reach-500.log').turns, run.record(seed=3).turns)
 
@@ -394,6 +397,14 @@ class Arguments(unittest.TestCase):
 
         self.assertEqual(detio.Run(function).record().check().values[0], [
             2, 2 + 4, 2 + 8, 'exclusive', 1 + 8, 'file', 'pipe', 'socketpair', 'listener', 'shut'])
+
+
+class Roles(unittest.TestCase):
+    def test_each_order_of_roles_comes_to_its_end(self):
+        for roles in (example.maker, example.squarer, example.summer), (example.server, example.client):
+            for order in itertools.permutations(roles):
+                result = detio.Run(*order, patience=5).record().check()
+                self.assertEqual([it for it in result.values if it], [20908 if len(order) == 3 else b'HELLO'])
 
 
 class Steps(unittest.TestCase):

@@ -1,4 +1,4 @@
-"""The example of docs/embedding.md: it is the file in bindings/python, and prints what the page shows."""
+"""The examples of docs/embedding.md: they are files in bindings/python, and one prints what the page shows."""
 import os
 import re
 import subprocess
@@ -9,7 +9,7 @@ import unittest
 from detio_tools import repository
 
 PAGE = repository.read("docs/embedding.md")
-EXAMPLE = "bindings/python/race.py"
+EXAMPLE, ROLES = "bindings/python/race.py", "bindings/python/roles.py"
 LIBRARY = f"{repository.TOP}/bindings/out/libdetio.so"
 # Each block of Python, and the lines that are indented below a call of the example.
 BLOCK = re.compile(r"^```python\n(.*?)^```$", re.DOTALL | re.MULTILINE)
@@ -23,7 +23,7 @@ def printed() -> list[str]:
 class Example(unittest.TestCase):
     def test_the_page_has_the_file(self) -> None:
         blocks = [it for it in BLOCK.findall(PAGE) if it.startswith('"""')]
-        self.assertEqual(blocks, [repository.read(EXAMPLE)])
+        self.assertEqual(blocks, [repository.read(EXAMPLE), repository.read(ROLES)])
 
     def test_the_page_has_a_line_for_each_that_is_printed(self) -> None:
         called = re.findall(r"^ *print\('([^']*)'", repository.read(EXAMPLE), re.MULTILINE)

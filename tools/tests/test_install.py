@@ -25,6 +25,7 @@ LIBRARY = {
     "include/detio_threads.h": 0o644,
     "include/detio.hpp": 0o644,
     "share/detio/detio.py": 0o644,
+    "share/detio/detio_pytest.py": 0o644,
     "libexec/detio/libdetio_preload.so": 0o755,
     "libexec/detio/detio-launch": 0o755,
 }
