@@ -254,8 +254,8 @@ uint32_t detio_unused(detio *, size_t thread, uint64_t *count);
 uint32_t detio_stop(detio *, uint32_t cause, size_t thread);
 uint32_t detio_finish(detio *, detio_run_end *);
 
-/* The log from a place on, also while the run goes on: then it is what the log has so far. `length` is that of the whole
- * log, also where `room` ends before. */
+/* The log from a place on, also while the run goes on: then it is what the log has so far. `length` is the whole
+ * log's, also where `room` ends before. */
 uint32_t detio_log(detio *, size_t from, uint8_t *data, size_t room, size_t *length);
 
 #ifdef __cplusplus

@@ -30,9 +30,10 @@ static bool is_last(detio_run *run, size_t thread) {
   return true;
 }
 
+/* (of a clock that goes on by some milliseconds at a time, which costs less) */
 static int64_t milliseconds_now(void) {
   struct timespec now = {0};
-  clock_gettime(CLOCK_MONOTONIC, &now);
+  clock_gettime(CLOCK_MONOTONIC_COARSE, &now);
   return (int64_t)now.tv_sec * 1000 + now.tv_nsec / 1000000;
 }
 
@@ -94,11 +95,8 @@ static bool serve(detio_run *run, size_t thread) {
     pthread_cond_signal(&run->changed[thread]);
     return false;
   }
-  if (phase != DETIO_GRANTED && phase != DETIO_RECORDED && phase != DETIO_BLOCKED) return false;
-  want->code = DETIO_AGAIN;
-  if (phase != DETIO_BLOCKED) {
-    want->code = detio_answer(&run->machine, thread, want->reply, want->data, want->room);
-  }
+  if (phase != DETIO_GRANTED && phase != DETIO_RECORDED) return false;
+  want->code = detio_answer(&run->machine, thread, want->reply, want->data, want->room);
   if (want->code == DETIO_AGAIN) {
     want->code = makes_again(run, thread);
     if (want->code == DETIO_DONE) return true;

@@ -305,6 +305,12 @@ static void a_path_has_no_zero_byte(void) {
   CHECK(detio_thread_call(&run, 0, &open, "dr\0x", 4, NULL, 0, &reply, NULL, 0) == DETIO_DONE);
   CHECK(reply.kind == DETIO_FAILURE && reply.error == DETIO_EINVAL && access("dr", F_OK) < 0);
   detio_run_free(&run);
+  /* (the run refuses it before; so does the host, for whoever asks it without a run) */
+  detio_outside asked = {.kind = DETIO_ASKS_OPEN, .length = 4, .call = open};
+  detio_outcome came;
+  memcpy(data, "dr\0x", 4);
+  detio_host_reach(&asked, false, 0, 10, data, sizeof data, &came);
+  CHECK(came.error == DETIO_EINVAL && access("dr", F_OK) < 0);
 }
 
 /* The address at which a descriptor listens or is connected. */

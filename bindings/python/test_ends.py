@@ -51,6 +51,14 @@ class Interrupted(InAFolder):
             status, out, said = within(60, textwrap.dedent(self.CALLS).replace('FUNCTION', function))
             self.assertEqual((status, out, said), (0, 'interrupted 0\n', ''), function)
 
+    def test_an_interrupt_in_a_function_that_yields_ends_the_run(self):
+        def interrupted(io):
+            yield io.pipe()
+            raise KeyboardInterrupt
+
+        with self.assertRaises(KeyboardInterrupt):
+            detio.Run(interrupted).record()
+
     def test_a_thread_that_cannot_start_ends_a_run(self):
         started = []
 

@@ -1,5 +1,5 @@
 /* Says of a call that failed that it was done. */
-// caught by: try-library 1
+// caught by: try-library 1 calls
 // caught by: library-replays library 20
 #include "detio.h"
 #include "noted.h"

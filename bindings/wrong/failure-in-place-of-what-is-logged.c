@@ -1,5 +1,5 @@
 /* Replays each success that the log has as a failure. */
-// caught by: try-library 1
+// caught by: try-library 1 calls
 // caught by: library-replays library 20
 #include "detio.h"
 #include "noted.h"

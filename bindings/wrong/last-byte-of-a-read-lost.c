@@ -1,5 +1,5 @@
 /* Loses the last byte of a read. */
-// caught by: try-library 1
+// caught by: try-library 1 calls
 // caught by: library-replays library 20
 #include "detio.h"
 #include "noted.h"

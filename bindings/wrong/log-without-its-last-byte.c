@@ -1,5 +1,5 @@
 /* Hands out the log without its last byte. */
-// caught by: try-library 1
+// caught by: try-library 1 calls
 #include "detio.h"
 #include "noted.h"
 

@@ -1,5 +1,5 @@
 /* Finds no record unused. */
-// caught by: try-library 1
+// caught by: try-library 1 calls
 #include "detio.h"
 #include "noted.h"
 
