@@ -51,7 +51,8 @@ static uint32_t stops(detio_run *run, size_t self, uint32_t cause, uint32_t code
 
 static bool is_granted(uint32_t phase) { return phase == DETIO_GRANTED || phase == DETIO_TO_OUTSIDE; }
 
-/* Numbers the calls that were granted since the last look, by their clocks: a call has a number once it is granted. */
+/* Numbers the calls that were granted since the last look, by their clocks, which is the order of turns: who takes the
+ * table does so at a later clock than that at which it was let go. A call has a number once it is granted. */
 static void number_grants(detio_run *run) {
   for (;;) {
     size_t first = run->threads;

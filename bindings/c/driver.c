@@ -73,15 +73,17 @@ static void *makes(void *given) {
   return NULL;
 }
 
-/* A thread makes a pipe, and waits for the turn, which thread 0 does not give up. */
-static pthread_t waits(caller *it, detio_run *run) {
+/* A thread works, makes a call, and waits for the turn, which another does not give up. */
+static pthread_t asks(caller *it, detio_run *run, size_t thread, uint32_t kind) {
   pthread_t started;
-  *it = (caller){.run = run, .thread = 1, .call = {.kind = DETIO_PIPE}};
-  CHECK(detio_thread_work(run, 1, 100) == DETIO_DONE);
+  *it = (caller){.run = run, .thread = thread, .call = {.kind = kind}};
+  CHECK(detio_thread_work(run, thread, 100) == DETIO_DONE);
   CHECK(pthread_create(&started, NULL, makes, it) == 0);
   sleeps(50);
   return started;
 }
+
+static pthread_t waits(caller *it, detio_run *run) { return asks(it, run, 1, DETIO_PIPE); }
 
 static void a_stop_ends_each_wait(void) {
   detio_run run;
@@ -143,6 +145,21 @@ static void calls_have_turns(void) {
   CHECK(detio_thread_turn(&run, 1, &turn, &clock) == DETIO_DONE && turn == 1 && clock == 105);
   CHECK(detio_thread_turn(&run, 0, &turn, &clock) == DETIO_DONE && turn == 2 && clock == 203);
   CHECK(detio_thread_turn(&run, 2, &turn, &clock) == DETIO_NO_THREAD && turn == 2 && clock == 203);
+  detio_run_free(&run);
+}
+
+/* Two that wait are granted by one look. The first takes an object, which costs more than the second's call does; but
+ * the table that it let go is free for clocks alone that are not below its own. So clocks say the order. */
+static void calls_at_one_clock_have_turns(void) {
+  detio_run run;
+  caller first, second;
+  uint64_t turn = 0, clock = 0;
+  begins(&run, 3, 10);
+  pthread_t started[] = {asks(&first, &run, 0, DETIO_PIPE), asks(&second, &run, 1, DETIO_GETFL)};
+  CHECK(detio_thread_end(&run, 2) == DETIO_DONE);
+  for (int t = 0; t < 2; t++) CHECK(pthread_join(started[t], NULL) == 0);
+  CHECK(detio_thread_turn(&run, 0, &turn, &clock) == DETIO_DONE && turn == 1 && clock == 105);
+  CHECK(detio_thread_turn(&run, 1, &turn, &clock) == DETIO_DONE && turn == 2 && clock == 106);
   detio_run_free(&run);
 }
 
@@ -451,6 +468,7 @@ int main(void) {
   work_lets_others_go_on();
   a_full_clock_ends_each_wait();
   calls_have_turns();
+  calls_at_one_clock_have_turns();
   a_loop_knows_whether_it_moved();
   a_still_run_says_who_waits();
   a_divergence_says_what_was_asked();

@@ -248,7 +248,8 @@ class Calls:
             value = asked.value(reply)
         else:
             name = library.detio_error_name(reply.error).decode()
-            path = os.fsdecode(asked.text) if asked.operands and isinstance(asked.operands[0], (str, bytes)) else None
+            has_path = asked.operands and isinstance(asked.operands[0], (str, bytes, os.PathLike))
+            path = os.fsdecode(asked.text) if has_path else None
             value = OSError(getattr(errno, name), name, path) if path else OSError(getattr(errno, name), name)
             value.call = str(asked)
         if self._turns is not None:
