@@ -261,6 +261,19 @@ impl Drop for Run {
     }
 }
 
+/// Plays a function under the schedule of each seed, one run after another: the seed, what each thread returned, and
+/// how the run ended. What the function does at the host it does each time.
+pub fn explore<T: Send>(
+    settings: Settings, wait: u32, seeds: impl IntoIterator<Item = u64>, reach: u64,
+    function: impl Fn(&mut Thread) -> T + Sync,
+) -> impl Iterator<Item = Result<(u64, Vec<T>, Ended), Fault>> {
+    seeds.into_iter().map(move |seed| {
+        let run = Run::record(&settings, wait)?.with_seed(seed, reach);
+        let values = run.play(&function);
+        Ok((seed, values, run.finish()?))
+    })
+}
+
 /// What a function makes its calls by. The thread ends with it.
 pub struct Thread<'a> {
     run: &'a Run,

@@ -148,16 +148,11 @@ fn deposits(io: &mut Thread) -> Result<u64, Fault> {
 
 #[test]
 fn seeds_find_what_is_lost_and_replay_it() {
-    let played = |seed| {
-        let run = run(2).with_seed(seed, 30);
-        let seen = run.play(deposits);
-        (seen, run.finish().unwrap().check().unwrap().log)
-    };
-    let lost = (1..50).find(|it| played(*it).0 == [Ok(1), Ok(1)]).unwrap();
-    let (seen, log) = played(lost);
-    assert!((1..50).any(|it| played(it).0 != seen));
+    let played = || detio::explore(Settings::of(2), 10, 1..50, 30, deposits).map(|it| it.unwrap());
+    let (lost, seen, ended) = played().find(|it| it.1 == [Ok(1), Ok(1)]).unwrap();
+    assert!(played().any(|it| it.1 != seen));
     for _ in 0..5 {
-        assert_eq!(Run::replay(&log).unwrap().with_seed(lost, 30).play(deposits), seen);
+        assert_eq!(Run::replay(&ended.log).unwrap().with_seed(lost, 30).play(deposits), seen);
     }
 }
 
