@@ -5,6 +5,8 @@
 #include <cstdio>
 #include <cstdlib>
 #include <fstream>
+#include <sys/resource.h>
+#include <system_error>
 #include <unistd.h>
 
 #define CHECK(what) \
@@ -127,6 +129,39 @@ static void a_scope_is_left() {
   }
 }
 
+#if !defined(__SANITIZE_ADDRESS__) && !defined(__SANITIZE_THREAD__)
+/* There is memory for the stacks of two threads, and not of 16: those that began are stopped and joined. */
+static void a_thread_cannot_start() {
+  std::ifstream status("/proc/self/statm");
+  rlim_t pages = 0;
+  struct rlimit before, less;
+  status >> pages;
+  CHECK(getrlimit(RLIMIT_AS, &before) == 0);
+  detio_cc::run run(16);
+  less = before;
+  less.rlim_cur = (pages + 12000) * 4096;
+  std::atomic<int> began(0), stops(0);
+  CHECK(pages && setrlimit(RLIMIT_AS, &less) == 0);
+  try {
+    run.start([&](detio_cc::thread &io) {
+      began++;
+      try {
+        if (io.number() == 0) io.pipe();
+        for (;;) reads_in_vain(io);
+      } catch (const detio_cc::stopped &) {
+        stops++;
+      }
+    });
+    CHECK(false);
+  } catch (const std::system_error &) {
+    CHECK(began < 16 && stops == began);
+  }
+  CHECK(setrlimit(RLIMIT_AS, &before) == 0);
+}
+#else
+static void a_thread_cannot_start() {}
+#endif
+
 static void what_is_refused_throws() {
   for (size_t threads : {size_t(0), size_t(17)}) {
     try {
@@ -152,6 +187,7 @@ int main(int argc, char **argv) {
   a_run_is_replayed();
   the_cause_is_thrown();
   what_is_refused_throws();
+  a_thread_cannot_start();
   for (int times = argc > 1 ? atoi(argv[1]) : 1; times > 0; times--) a_scope_is_left();
   printf("detio.hpp is as it should be\n");
   return 0;
