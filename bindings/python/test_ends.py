@@ -394,7 +394,9 @@ class Arguments(unittest.TestCase):
             seen.append(io.getfl(io.open('/a', 'w', nonblock=True)))
             io.pipe()
             io.socketpair()
-            seen += [io.fstat(it)[0] for it in (at, 2, 4, io.tcp_listen())]
+            listener = io.tcp_listen()
+            others = io.host_open('/dev/null'), listener, io.tcp_connect(io.fstat(listener)[1])
+            seen += [io.fstat(it)[0] for it in (at, 3, 5, *others)]
             io.shutdown(4, 'read')
             io.shutdown(5, 'both')
             try:
@@ -404,7 +406,7 @@ class Arguments(unittest.TestCase):
             return seen
 
         self.assertEqual(detio.Run(function).record().check().values[0], [
-            2, 2 + 4, 2 + 8, 'exclusive', 1 + 8, 'file', 'pipe', 'socketpair', 'listener', 'shut'])
+            2, 2 + 4, 2 + 8, 'exclusive', 1 + 8, 'file', 'pipe', 'socketpair', 'host file', 'listener', 'stream', 'shut'])
 
 
 class Roles(unittest.TestCase):
