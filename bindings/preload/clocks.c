@@ -94,11 +94,15 @@ EXPORT int getrusage(__rusage_who_t who, struct rusage *to) {
 /* Sleeps: waits that nobody else ends. */
 static int sleeps_until(clockid_t clock, const struct timespec *until) {
   pthread_testcancel();
-  turn();
-  (void)wait_until(NULL, clock, until);
+  do {
+    turn();
+    slots[me].light = LIGHTER;
+    (void)wait_until(NULL, clock, until);
+    if (is_interrupted(false)) return EINTR;
+  } while (was_cut());
   return 0;
 }
-static int sleeps_for(const struct timespec *time) {
+static int sleeps_for(const struct timespec *time, struct timespec *left) {
   struct timespec until = *time;
   if (time->tv_sec < 0 || time->tv_nsec < 0 || time->tv_nsec >= 1000000000) return EINVAL;
   if (!run.replays) {
@@ -107,18 +111,24 @@ static int sleeps_for(const struct timespec *time) {
     until.tv_nsec += time->tv_nsec;
     if (until.tv_nsec >= 1000000000) until.tv_sec++, until.tv_nsec -= 1000000000;
   }
-  return sleeps_until(CLOCK_MONOTONIC, &until);
+  int code = sleeps_until(CLOCK_MONOTONIC, &until);
+  if (code && left) {
+    int64_t more = (until.tv_sec * (int64_t)1000000000 + until.tv_nsec) - now_in_recording();
+    struct timespec rest = {more > 0 ? more / 1000000000 : 0, more > 0 ? more % 1000000000 : 0};
+    (void)ask(&(question){.what = ASK_LEFT, .bytes = &rest, .length = sizeof rest, .room = sizeof rest}, left, NULL);
+  }
+  return code;
 }
 EXPORT int clock_nanosleep(clockid_t clock, int how, const struct timespec *time, struct timespec *left) {
   NEXT(clock_nanosleep);
   OFF(next(clock, how, time, left));
   if (clock != CLOCK_REALTIME && clock != CLOCK_MONOTONIC) return EINVAL;
-  return how & TIMER_ABSTIME ? sleeps_until(clock, time) : sleeps_for(time);
+  return how & TIMER_ABSTIME ? sleeps_until(clock, time) : sleeps_for(time, left);
 }
 EXPORT int nanosleep(const struct timespec *time, struct timespec *left) {
   NEXT(nanosleep);
   OFF(next(time, left));
-  int code = sleeps_for(time);
+  int code = sleeps_for(time, left);
   return code ? (errno = code, -1) : 0;
 }
 EXPORT int thrd_sleep(const struct timespec *time, struct timespec *left) { return nanosleep(time, left); }
@@ -130,7 +140,9 @@ EXPORT int usleep(useconds_t micros) {
 EXPORT unsigned sleep(unsigned seconds) {
   NEXT(sleep);
   OFF(next(seconds));
-  return nanosleep(&(struct timespec){seconds, 0}, NULL) ? seconds : 0;
+  struct timespec left = {0, 0};
+  if (!nanosleep(&(struct timespec){seconds, 0}, &left)) return 0;
+  return (unsigned)left.tv_sec;
 }
 
 /* Chance. */
@@ -178,7 +190,10 @@ EXPORT uint32_t arc4random_uniform(uint32_t bound) {
   }
 NUMBER(getpid, pid_t, SYS_getpid)
 NUMBER(getppid, pid_t, SYS_getppid)
-NUMBER(gettid, pid_t, SYS_gettid)
+EXPORT pid_t gettid(void) {
+  OFF((pid_t)KERNEL(SYS_gettid, 0));
+  return slots[me].tid = (pid_t)asks(ASK_NUMBER, 0, NULL, SYS_gettid, NULL, 0);
+}
 EXPORT int sched_getaffinity(pid_t pid, size_t size, cpu_set_t *to) {
   NEXT(sched_getaffinity);
   OFF(next(pid, size, to));

@@ -207,11 +207,15 @@ EXPORT int close_range(unsigned first, unsigned last, int flags) {
 EXPORT void closefrom(int first) { (void)close_range(first < 0 ? 0 : (unsigned)first, UINT_MAX, 0); }
 
 /* Reads and writes. A read or a write of a stream waits for its peer before it is made: so it holds nobody up. */
-void wait_for_door(int fd, short events) {
+bool wait_for_door(int fd, short events) {
   const opened_file *f = opened_at(fd);
   struct pollfd door = {.fd = f->real, .events = events};
-  if ((f->kind == STREAM || f->kind == LISTENER || (f->kind == HOST && f->waits)) && !f->nonblock)
+  if ((f->kind != STREAM && f->kind != LISTENER && (f->kind != HOST || !f->waits)) || f->nonblock) return true;
+  for (;;) {
     await_doors(&door, 1, -1);
+    if (door.revents || !was_cut()) return true;
+    if (is_interrupted(true)) return false;
+  }
 }
 
 /* A read at the descriptor's offset, or where `at` is none of it. */
@@ -223,9 +227,9 @@ static ssize_t reads(int fd, void *bytes, size_t count, off_t at) {
   forget_told(f);
   bool all = f->kind == HOST && !f->waits ? true : f->kind == MEMORY;
   size_t done = 0;
-  if (at < 0 && count) wait_for_door(fd, POLLIN);
+  if (at < 0 && count && !wait_for_door(fd, POLLIN)) return -1;
   do {
-    if (at < 0 && count && !done && !f->nonblock) await_bytes(f);
+    if (at < 0 && count && !done && !f->nonblock && !await_bytes(f)) return -1;
     size_t most = at >= 0 && f->kind == HOST ? PIECE : MOST, piece = count - done < most ? count - done : most, n = 0;
     int64_t got;
     if (at >= 0 && f->kind == HOST) {
@@ -684,7 +688,7 @@ static void *map(void *at, size_t length, int prot, int flags, int fd, off_t fro
   return r < 0 && r > -4096 ? (errno = (int)-r, MAP_FAILED) : (void *)r;
 }
 EXPORT void *mmap(void *at, size_t length, int prot, int flags, int fd, off_t from) {
-  if (!takes_part() || (flags & MAP_ANONYMOUS) || !is_ours(fd)) return map(at, length, prot, flags, fd, from);
+  if ((flags & MAP_ANONYMOUS) || !takes_part() || !is_ours(fd)) return map(at, length, prot, flags, fd, from);
   NOTE_CALLER();
   enum kind kind = opened_at(fd)->kind;
   if (kind == NONE) return errno = EBADF, MAP_FAILED;

@@ -69,7 +69,10 @@ static bool may_wait(const opened_file *f) {
     errno = EAGAIN;
     return false;
   }
-  park(f->object, "what an eventfd counts");
+  if (!park_lightly(f->object, "what an eventfd counts", LIGHTER)) return true;
+  turn_end();
+  if (is_interrupted(true)) return false;
+  turn();
   return true;
 }
 ssize_t read_event(const opened_file *f, void *to, size_t room) {
@@ -195,6 +198,7 @@ static int wait_epoll(int at, struct epoll_event *to, int room, int64_t nanos) {
     int64_t left = nanos <= 0 ? nanos : until - now_in_recording();
     n = poll_all(fds, count, nanos > 0 && left < 1 ? 1 : left, &changes, seen);
     if (n == LOOKS_AGAIN) continue;
+    if (n < 0) return n;
     turn();
     n = tell_ready(f->object, fds, which, count, to, room);
     turn_end();
@@ -209,10 +213,14 @@ EXPORT int epoll_wait(int at, struct epoll_event *to, int room, int millis) {
 EXPORT int epoll_pwait(int at, struct epoll_event *to, int room, int millis, const sigset_t *set) {
   NEXT(epoll_pwait);
   OFF(next(at, to, room, millis, set));
-  return wait_epoll(at, to, room, millis < 0 ? -1 : millis * (int64_t)1000000);
+  uint64_t kept;
+  if (!begin_masked(set, &kept)) return -1;
+  return end_masked(set, kept, wait_epoll(at, to, room, millis < 0 ? -1 : millis * (int64_t)1000000));
 }
 EXPORT int epoll_pwait2(int at, struct epoll_event *to, int room, const struct timespec *time, const sigset_t *set) {
   NEXT(epoll_pwait2);
   OFF(next(at, to, room, time, set));
-  return wait_epoll(at, to, room, time ? time->tv_sec * (int64_t)1000000000 + time->tv_nsec : -1);
+  int64_t nanos = time ? time->tv_sec * (int64_t)1000000000 + time->tv_nsec : -1;
+  uint64_t kept;
+  return begin_masked(set, &kept) ? end_masked(set, kept, wait_epoll(at, to, room, nanos)) : -1;
 }

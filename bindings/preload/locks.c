@@ -123,7 +123,7 @@ EXPORT int pthread_cond_wait(pthread_cond_t *c, pthread_mutex_t *p) {
   int count = m->count;
   slots[me].then = m;
   pass_on(m);
-  park(c, "condition");
+  (void)park_lightly(c, "condition", LIGHT);
   slots[me].then = NULL;
   m->count = count;
   turn_end();
@@ -173,7 +173,8 @@ EXPORT int pthread_cond_clockwait(pthread_cond_t *c, pthread_mutex_t *p, clockid
   int count = m->count;
   slots[me].then = NULL;
   pass_on(m);
-  bool woken = wait_until(c, clock, until);
+  slots[me].light = LIGHT;
+  bool woken = wait_until(c, clock, until) || was_cut();
   turn();
   if (take_now(m, false) < 0) park(m, "mutex");
   m->count = count;
@@ -189,11 +190,15 @@ EXPORT int pthread_cond_timedwait(pthread_cond_t *c, pthread_mutex_t *p, const s
 EXPORT int sem_wait(sem_t *s) {
   NEXT(sem_wait);
   OFF(next(s));
-  turn();
-  if (*(unsigned *)s) --*(unsigned *)s;
-  else park(s, "semaphore");
-  turn_end();
-  return 0;
+  for (;;) {
+    turn();
+    bool free = *(unsigned *)s != 0;
+    if (free) --*(unsigned *)s;
+    bool cut = !free && park_lightly(s, "semaphore", LIGHT);
+    turn_end();
+    if (!cut) return 0;
+    if (is_interrupted(true)) return -1;
+  }
 }
 EXPORT int sem_trywait(sem_t *s) {
   NEXT(sem_trywait);
@@ -208,8 +213,14 @@ EXPORT int sem_clockwait(sem_t *s, clockid_t clock, const struct timespec *until
   NEXT(sem_clockwait);
   OFF(next(s, clock, until));
   if (until->tv_nsec < 0 || until->tv_nsec >= 1000000000) return errno = EINVAL, -1;
-  turn();
-  if (!*(unsigned *)s) return wait_until(s, clock, until) ? 0 : (errno = ETIMEDOUT, -1);
+  for (;;) {
+    turn();
+    if (*(unsigned *)s) break;
+    slots[me].light = LIGHT;
+    bool woken = wait_until(s, clock, until);
+    if (!was_cut()) return woken ? 0 : (errno = ETIMEDOUT, -1);
+    if (is_interrupted(false)) return -1;
+  }
   --*(unsigned *)s;
   turn_end();
   return 0;
@@ -390,9 +401,9 @@ static long wait_futex(int *word, int op, int value, const struct timespec *time
     return errno = EAGAIN, -1;
   }
   if (!time) {
-    park(word, "futex");
+    bool cut = park_lightly(word, "futex", LIGHT);
     turn_end();
-    return 0;
+    return cut ? (errno = EINTR, -1) : 0;
   }
   until = *time;
   if ((op & FUTEX_CMD_MASK) == FUTEX_WAIT && !run.replays) { /* it says for how long, and not until when */
@@ -401,7 +412,9 @@ static long wait_futex(int *word, int op, int value, const struct timespec *time
     until.tv_nsec += time->tv_nsec;
     if (until.tv_nsec >= 1000000000) until.tv_sec++, until.tv_nsec -= 1000000000;
   }
-  return wait_until(word, clock, &until) ? 0 : (errno = ETIMEDOUT, -1);
+  slots[me].light = LIGHT;
+  bool woken = wait_until(word, clock, &until);
+  return was_cut() ? (errno = EINTR, -1) : woken ? 0 : (errno = ETIMEDOUT, -1);
 }
 static long futex(int *word, int op, int value, const struct timespec *time) {
   switch (op & FUTEX_CMD_MASK) {
@@ -440,7 +453,9 @@ EXPORT long syscall(long n, ...) {
     NOTE_CALLER();
     if (n == SYS_futex) return futex((int *)a, (int)b, (int)c, (const struct timespec *)d);
     if (n == SYS_getrandom) return getrandom((void *)a, (size_t)b, (unsigned)c);
-    if (n == SYS_gettid) return asks(ASK_NUMBER, 0, NULL, SYS_gettid, NULL, 0);
+    if (n == SYS_gettid) return gettid();
+    if (n == SYS_tgkill) return tgkill((pid_t)a, (pid_t)b, (int)c);
+    if (n == SYS_kill) return kill((pid_t)a, (int)b);
     snprintf(kind, sizeof kind, "system call %ld", n);
     if (makes_stranger(n)) {
       uncovered(kind, "%s is not covered: refused, in a rerun too", kind);

@@ -5,6 +5,7 @@
 #include "detio_host.h"
 
 #include <fcntl.h>
+#include <poll.h>
 #include <sched.h>
 #include <stdio.h>
 #include <stdlib.h>
@@ -157,6 +158,8 @@ static long ask_host(const question *q, uint8_t *out) {
   case ASK_ABOUT: memcpy(out, q->bytes, q->length); return (long)q->length;
   case ASK_WAITED: memcpy(out, q->bytes, q->length); return q->a;
   case ASK_CLOSED: return 0;
+  case ASK_SIGNAL: return take_arrived((siginfo_t *)out);
+  case ASK_LEFT: memcpy(out, q->bytes, q->length); return 0;
   case ASK_ERROR: return slots[me].error;
   case ASK_KIND: return kind_of(q->at);
   case ASK_CLOCK: return KERNEL(SYS_clock_gettime, q->a, out);
@@ -172,6 +175,7 @@ static long ask_host(const question *q, uint8_t *out) {
   case ASK_USAGE: return KERNEL(SYS_getrusage, q->a, out);
   case ASK_TIMES: return KERNEL(SYS_times, out);
   case ASK_AFFINITY: return KERNEL(SYS_sched_getaffinity, q->a, q->room, out);
+  case ASK_TIMER: return call_timer((long)q->a, q->b, q->bytes, out);
   case ASK_SIGNALS: return KERNEL(SYS_rt_sigpending, out, 8);
   default: return ask_open(q, out);
   }
@@ -192,6 +196,7 @@ static void answer(const question *q, uint8_t *data, detio_outcome *came) {
   slot *s = &slots[me];
   answer_head h = {.what = (uint16_t)q->what, .digest = s->digest};
   if (q->what == ASK_WAITED) h.pushes = s->woken ? NEVER : s->pushes;
+  if (q->what == ASK_SIGNAL) h.pushes = s->entries;
   if (q->room <= 512) memset(data + sizeof h, 0, q->room);
   long result = ask_host(q, data + sizeof h);
   h.result = result < 0 ? -1 : result;
@@ -277,6 +282,7 @@ uint32_t go_outside(void) {
   }
   came.back = door;
   s->outcomes++;
+  if (run.replays) s->comes = next_signal(me);
   if ((code = detio_record(&machine, (size_t)me, &came, s->room, came.length))) return code;
   if (!run.replays) write_log();
   return DETIO_DONE;
@@ -306,10 +312,21 @@ int64_t asks(enum ask what, int at, const char *path, int64_t a, void *out, size
   return ask(&(question){.what = what, .at = at, .path = path, .a = a, .room = room}, out, NULL);
 }
 
+/* The outcome of a wait: these bits, and whether a signal ended it. */
+static void record_wait(int16_t *bits, size_t count, bool woken) {
+  enum { MOST_BITS = 96 };
+  int16_t all[MOST_BITS + 1] = {slots[me].signalled};
+  if (count > MOST_BITS) ends(OURS, "a wait for too much");
+  if (count) memcpy(all + 1, bits, 2 * count);
+  (void)ask(&(question){.what = ASK_WAITED, .a = woken, .bytes = all, .length = 2 * count + 2, .room = 2 * count + 2},
+            all, NULL);
+  slots[me].signalled = all[0] != 0;
+  if (count) memcpy(bits, all + 1, 2 * count);
+}
 bool wait_outside(const void *what, void (*ready)(void *), void *given, int16_t *bits, size_t count) {
   bool woken = park_outside(what, ready, given);
   unlock_run();
-  (void)ask(&(question){.what = ASK_WAITED, .bytes = bits, .length = 2 * count, .room = 2 * count}, bits, NULL);
+  record_wait(bits, count, false);
   return woken;
 }
 
@@ -326,10 +343,14 @@ static struct timespec as_monotonic(clockid_t clock, const struct timespec *unti
   return (struct timespec){seconds, nanos};
 }
 
+static void await_time(void *until) {
+  struct pollfd doors[1];
+  (void)wait_at_host(doors, 0, until);
+}
 bool wait_until(const void *what, clockid_t clock, const struct timespec *until) {
   struct timespec then = as_monotonic(clock, until);
-  bool woken = park_until(what, &then);
+  bool woken = park_outside(what, await_time, &then);
   unlock_run();
-  (void)asks(ASK_WAITED, 0, NULL, woken, NULL, 0);
+  record_wait(NULL, 0, woken);
   return woken;
 }

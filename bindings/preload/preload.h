@@ -20,6 +20,7 @@
 #include <dlfcn.h>
 #include <errno.h>
 #include <pthread.h>
+#include <signal.h>
 #include <stdarg.h>
 #include <stdbool.h>
 #include <stddef.h>
@@ -46,12 +47,12 @@ enum { DIVERGED = 120, DEADLOCK = 121, STRICT = 122, LOG_ENDS = 123, DIFFERS = 1
 /* What is asked of the outside. Those after LAST_SURE can fail, so --fault may take them. */
 enum ask {
   ASK_ABOUT = 1, ASK_WAITED, ASK_CLOCK, ASK_RESOLUTION, ASK_RANDOM, ASK_NUMBER, ASK_NUMBERS, ASK_PATHCONF, ASK_ERROR,
-  ASK_KIND, ASK_CLOSED, LAST_SURE,
+  ASK_KIND, ASK_CLOSED, ASK_SIGNAL, ASK_LEFT, LAST_SURE,
   ASK_STAT, ASK_FSTAT, ASK_STATFS, ASK_FSTATFS, ASK_PREAD, ASK_PWRITE, ASK_FTRUNCATE, ASK_TRUNCATE, ASK_FALLOCATE,
   ASK_FSYNC, ASK_FLOCK, ASK_LOCKED, ASK_UNLINK, ASK_RENAME, ASK_LINK, ASK_SYMLINK, ASK_MKDIR, ASK_MKNOD, ASK_ACCESS,
   ASK_CHMOD, ASK_FCHMOD, ASK_CHOWN, ASK_FCHOWN, ASK_UTIMES, ASK_READLINK, ASK_REALPATH, ASK_GETCWD, ASK_CHDIR,
   ASK_FCHDIR, ASK_LISTING, ASK_GETXATTR, ASK_FGETXATTR, ASK_LISTXATTR, ASK_FLISTXATTR, ASK_IOCTL, ASK_SOCKNAME,
-  ASK_PEERNAME, ASK_KILL, ASK_CHILD, ASK_SYSINFO, ASK_UNAME, ASK_USAGE, ASK_TIMES, ASK_AFFINITY, ASK_SIGNALS
+  ASK_PEERNAME, ASK_KILL, ASK_CHILD, ASK_SYSINFO, ASK_UNAME, ASK_USAGE, ASK_TIMES, ASK_AFFINITY, ASK_SIGNALS, ASK_TIMER
 };
 
 typedef struct {
@@ -65,6 +66,9 @@ typedef struct {
 } question;
 
 enum state { FREE, LIVE, DONE };
+/* Whether a signal ends a wait: never; one of another thread; or one from outside too, though nothing else is there that
+ * could end it. */
+enum light { HEAVY, LIGHT, LIGHTER };
 
 typedef struct {
   int word;                /* its thread sleeps while this is 0 */
@@ -98,6 +102,17 @@ typedef struct {
   int how, mode;           /* the flags and the mode of such an opening */
   void *caller;            /* where the call that is under way, or was made last, returns to in the program */
   uint8_t room[ROOM];
+  uint64_t entries;        /* into functions that are ours */
+  uint64_t comes;          /* of a rerun: at which of them the log has a signal come, or 0 */
+  uint64_t blocked;        /* the signals that it blocks, a bit each: that of signal 1 is the lowest */
+  uint64_t awaited;        /* .. and that it waits for, as sigwait does */
+  bool due;                /* a signal is there for it that it does not block */
+  enum light light;        /* whether a signal ends the wait that it is about to begin, or is in */
+  bool interrupted;        /* a signal that a thread sent did */
+  bool signalled;          /* .. or one from outside */
+  int poked;               /* one came to its thread of the host, which does not sleep now */
+  unsigned handled, cut;   /* handlers that it ran, and those of them that have calls fail */
+  pid_t tid;               /* its number, once it asked for it */
 } slot;
 
 #define NEVER UINT64_MAX
@@ -126,9 +141,20 @@ extern settings run;
 _Noreturn void stay(void);
 extern int ender;  /* the slot of that thread; or NOBODY, while the run goes on */
 enum { NOBODY = -2 };
+/* signals.c: what came from outside, and is not taken yet; runs the handlers of what is there for this thread. */
+extern uint64_t arrived;
+void take_signals(void);
+static inline void enter(void) {
+  slot *s = &slots[me];
+  s->entries++;
+  if (__builtin_expect(s->due || s->entries == s->comes || __atomic_load_n(&arrived, __ATOMIC_RELAXED), 0))
+    take_signals();
+}
 static inline bool takes_part(void) {
   if (__builtin_expect(ender != NOBODY, 0) && me >= 0 && me != ender) stay();
-  return on && me >= 0 && !inside;
+  if (!on || me < 0 || inside) return false;
+  enter();
+  return true;
 }
 
 /* The function of this name that the program would have called without us. */
@@ -167,10 +193,13 @@ void begin_turns(void);
 void thread_begins(void);
 /* At the turn: until another thread unparks it, and it has the turn again. `what` is a word for what it waits for. */
 void park(const void *on, const char *what);
-bool park_until(const void *on, const struct timespec *until);  /* .. or until then: whether another thread did */
+bool park_lightly(const void *on, const char *what, enum light); /* .. or until a signal comes: whether one did */
 /* .. or until `ready` comes back from the outside; it is called of a recording alone, and ends where the thread's waker
  * can be read. Whether another thread did. */
 bool park_outside(const void *on, void (*ready)(void *), void *given);
+/* Of a recording, without the lock: waits until one of `count` doors is ready, until this time of CLOCK_MONOTONIC, or
+ * until the thread is unparked, or a signal ends its wait. `doors` has room for one more. Whether a door is ready. */
+bool wait_at_host(struct pollfd *doors, size_t count, const struct timespec *until);
 void unpark(int i);              /* at the turn */
 int first_waiter(const void *on);
 uint64_t next_ticket(void);
@@ -196,6 +225,7 @@ int64_t asks(enum ask what, int at, const char *path, int64_t a, void *answer, s
 bool wait_outside(const void *on, void (*ready)(void *), void *given, int16_t *bits, size_t count);
 /* .. until another thread unparks it from this, or until this time of this clock: whether it was unparked. */
 bool wait_until(const void *on, clockid_t clock, const struct timespec *until);
+static inline bool was_cut(void) { return slots[me].interrupted || slots[me].signalled; } /* the wait, by a signal */
 void digest(const void *bytes, size_t length);
 
 /* Before the bytes of each answer. */
@@ -217,6 +247,7 @@ void open_log(void);
 void write_log(void);
 uint64_t next_pushes(int i);  /* of a rerun: what the next answer for thread i has as its count of pushes */
 bool has_outcomes(int i);
+uint64_t next_signal(int i);  /* of a rerun: the entry at which a signal comes, where that is next for thread i; or 0 */
 void compare_about(void);
 
 /* the end of a run by us */
@@ -252,10 +283,10 @@ int opens_at(int at, const char *path, int how, int mode);
 int64_t plain_call(const detio_call *, const void *text, size_t length, void *data, size_t room);
 void *new_opened(int fd, enum kind kind, int real);
 void begin_descriptors(void);
-void wait_for_door(int fd, short events);
+bool wait_for_door(int fd, short events); /* false: a handler has the call fail with EINTR */
 
 /* readiness.c */
-void await_bytes(const opened_file *); /* of a pipe or pair, until it has some, or nobody writes it */
+bool await_bytes(const opened_file *); /* of a pipe or pair, until it has some, or nobody writes it; false: EINTR */
 void note_moved(const opened_file *, int64_t taken, int64_t put);
 void note_closed(const opened_file *, bool reads, bool writes); /* this end does not any more */
 void join_ends(opened_file *, opened_file *, bool both_ways);
@@ -294,6 +325,31 @@ bool is_stream(struct _IO_FILE **file); /* whether a FILE is ours, also where it
 
 /* process.c */
 void begin_processes(void);
+
+/* signals.c */
+#define BIT(number) (1ull << ((number) - 1))
+enum { SIGNALS = 65 };
+void begin_signals(void);
+void forget_signals(int i);         /* of a thread that was there before */
+bool is_interrupted(bool restarts); /* runs what is due: whether a handler ran that has the call fail with EINTR */
+bool take_awaited(uint64_t set, siginfo_t *to); /* at the turn: one that is there, in place of its handler */
+uint64_t signals_there(void);       /* for this thread, or for any */
+void set_blocked(uint64_t set);     /* of this thread, here and at the host */
+bool begin_masked(const sigset_t *mask, uint64_t *kept); /* for a wait; false: a handler ran already */
+int end_masked(const sigset_t *mask, uint64_t kept, int result);
+void interrupt(int i);              /* at the turn: a signal ends the wait of a thread, where it is light */
+long take_arrived(siginfo_t *to);   /* the number of one that came from outside, or 0 */
+int taker(void);                    /* where all are parked: the thread that takes what comes from outside, or -1 */
+extern bool timer_is_set;           /* .. and so a signal will come */
+
+/* alarms.c */
+long call_timer(long call, int64_t given, const void *in, uint8_t *out);
+
+/* handlers.c */
+struct sigaction handling(int number);
+bool is_quiet(int number);          /* it has no handler and no effect */
+void set_default(int number);
+void begin_handlers(void (*handle)(int, siginfo_t *, void *));
 
 /* net.c */
 void forbid_effects(void);

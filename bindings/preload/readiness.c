@@ -7,7 +7,6 @@
 #include <poll.h>
 #include <stdlib.h>
 #include <string.h>
-#include <sys/eventfd.h>
 #include <sys/select.h>
 #include <sys/syscall.h>
 
@@ -33,11 +32,17 @@ static void wake_at(const channel *c) {
   for (int w; c && (w = first_waiter(c)) >= 0;) unpark(w);
   wake_pollers();
 }
-void await_bytes(const opened_file *f) {
-  if (!f->in) return;
+bool await_bytes(const opened_file *f) {
+  if (!f->in) return true;
   turn();
-  while (f->in->filled <= 0 && !f->in->writer_gone && !f->in->reader_gone) park(f->in, "what comes through a pipe");
+  while (f->in->filled <= 0 && !f->in->writer_gone && !f->in->reader_gone) {
+    if (!park_lightly(f->in, "what comes through a pipe", LIGHTER)) continue;
+    turn_end();
+    if (is_interrupted(true)) return false;
+    turn();
+  }
   turn_end();
+  return true;
 }
 void note_moved(const opened_file *f, int64_t taken, int64_t put) {
   if (!f->in && !f->out) return;
@@ -99,23 +104,29 @@ static int look_at(struct pollfd *fds, struct pollfd *doors, nfds_t count, bool 
   return ready;
 }
 
-/* Waits at the host. Where the run is a recording, the thread's waker is one more door. */
+int64_t now_in_recording(void) {
+  struct timespec now = {0, 0};
+  if (!run.replays) KERNEL(SYS_clock_gettime, CLOCK_MONOTONIC, &now);
+  return now.tv_sec * (int64_t)1000000000 + now.tv_nsec;
+}
+static struct timespec as_time(int64_t nanos) {
+  return (struct timespec){nanos / 1000000000, nanos % 1000000000};
+}
+
+/* Waits at the host. */
 typedef struct { struct pollfd *doors; nfds_t count; int64_t nanos; int16_t *bits; } readiness;
 static void poll_doors(void *given) {
   readiness *r = given;
   struct pollfd all[MOST_POLLED + 1];
-  struct timespec t = {r->nanos / 1000000000, r->nanos % 1000000000};
-  uint64_t woken;
-  if (slots[me].waker > 0) KERNEL(SYS_read, slots[me].waker, &woken, sizeof woken); /* of a wait before */
-  if (!__atomic_load_n(&slots[me].parked, __ATOMIC_SEQ_CST)) t = (struct timespec){0, 0}, r->nanos = 0;
+  struct timespec until = as_time(now_in_recording() + r->nanos);
   memcpy(all, r->doors, r->count * sizeof *all);
-  all[r->count] = (struct pollfd){slots[me].waker > 0 ? slots[me].waker : -1, POLLIN, 0};
-  long n = KERNEL(SYS_ppoll, all, r->count + 1, r->nanos < 0 ? NULL : &t, NULL, 0);
-  for (nfds_t i = 0; i < r->count; i++) r->bits[i] = n > 0 ? all[i].revents : 0;
+  bool ready = wait_at_host(all, r->count, r->nanos < 0 ? NULL : &until);
+  for (nfds_t i = 0; i < r->count; i++) r->bits[i] = ready ? all[i].revents : 0;
 }
 static bool await_doors_or(const void *on, struct pollfd *doors, nfds_t count, int64_t nanos) {
   int16_t bits[MOST_POLLED] = {0};
   readiness r = {doors, count, nanos, bits};
+  slots[me].light = LIGHTER;
   bool woken = wait_outside(on, poll_doors, &r, bits, count);
   for (nfds_t i = 0; i < count; i++) doors[i].revents = bits[i];
   return woken;
@@ -126,14 +137,6 @@ void await_doors(struct pollfd *doors, size_t count, int64_t nanos) {
   (void)await_doors_or(NULL, doors, count, nanos);
 }
 
-int64_t now_in_recording(void) {
-  struct timespec now = {0, 0};
-  if (!run.replays) KERNEL(SYS_clock_gettime, CLOCK_MONOTONIC, &now);
-  return now.tv_sec * (int64_t)1000000000 + now.tv_nsec;
-}
-static struct timespec as_time(int64_t nanos) {
-  return (struct timespec){nanos / 1000000000, nanos % 1000000000};
-}
 static int combine(struct pollfd *fds, const struct pollfd *doors, nfds_t count) {
   int ready = 0;
   for (nfds_t i = 0; i < count; i++) {
@@ -141,9 +144,6 @@ static int combine(struct pollfd *fds, const struct pollfd *doors, nfds_t count)
     ready += fds[i].revents != 0;
   }
   return ready;
-}
-static void make_waker(void) {
-  if (!run.replays && !slots[me].waker) slots[me].waker = (int)KERNEL(SYS_eventfd2, 0, EFD_CLOEXEC | EFD_NONBLOCK);
 }
 
 /* Whether a timer is among these: then all times are reckoned by recorded clocks. */
@@ -156,8 +156,11 @@ static int64_t now_for(bool timed) { return timed ? recorded_now(CLOCK_MONOTONIC
 /* At the turn, which it gives up: waits for so long (-1: for ever) until something in memory moves: whether it did. */
 static bool await_memory(int64_t nanos) {
   struct timespec then = as_time(now_in_recording() + nanos);
-  if (nanos >= 0) return wait_until(&pollers, CLOCK_MONOTONIC, &then);
-  park(&pollers, "what poll looks at");
+  if (nanos >= 0) {
+    slots[me].light = LIGHTER;
+    return wait_until(&pollers, CLOCK_MONOTONIC, &then);
+  }
+  (void)park_lightly(&pollers, "what poll looks at", LIGHTER);
   turn_end();
   return true;
 }
@@ -179,15 +182,17 @@ int poll_all(struct pollfd *fds, size_t count, int64_t nanos, const unsigned *ch
     }
     int ready = look_at(fds, doors, count, &any_door);
     if (any_door) {
-      make_waker();
-      bool woken = await_doors_or(&pollers, doors, count, ready || over ? 0 : left);
+      bool woken = await_doors_or(&pollers, doors, count, ready || over ? 0 : left) || was_cut();
       int all = combine(fds, doors, count);
-      if (all || over || (!woken && !timed)) return all;
+      if (all || over) return all;
+      if (is_interrupted(false)) return -1;
+      if (!woken && !timed) return 0;
     } else if (ready || over) {
       turn_end();
       return ready;
     } else {
-      over = !await_memory(left) && !timed;
+      over = !await_memory(left) && !was_cut() && !timed;
+      if (is_interrupted(false)) return -1;
     }
   }
 }
@@ -211,7 +216,8 @@ EXPORT int __ppoll_chk(struct pollfd *fds, nfds_t count, const struct timespec *
 EXPORT int ppoll(struct pollfd *fds, nfds_t count, const struct timespec *time, const sigset_t *mask) {
   NEXT(ppoll);
   OFF(next(fds, count, time, mask));
-  return poll_all(fds, count, nanos_of(time), NULL, 0);
+  uint64_t kept;
+  return begin_masked(mask, &kept) ? end_masked(mask, kept, poll_all(fds, count, nanos_of(time), NULL, 0)) : -1;
 }
 static int select_all(int count, fd_set *in, fd_set *out, fd_set *other, int64_t nanos) {
   struct pollfd fds[64];
@@ -244,5 +250,6 @@ EXPORT int pselect(int count, fd_set *in, fd_set *out, fd_set *other, const stru
                    const sigset_t *mask) {
   NEXT(pselect);
   OFF(next(count, in, out, other, time, mask));
-  return select_all(count, in, out, other, nanos_of(time));
+  uint64_t kept;
+  return begin_masked(mask, &kept) ? end_masked(mask, kept, select_all(count, in, out, other, nanos_of(time))) : -1;
 }

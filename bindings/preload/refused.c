@@ -126,7 +126,6 @@ REFUSED(lio_listio64, (int how, struct aiocb64 *const all[], int count, struct s
 REFUSES(void *, NULL, ENOSYS, sem_open, (const char *name, int how, mode_t mode, unsigned value),
         (name, how, mode, value))
 REFUSED(sem_unlink, (const char *name), (name))
-REFUSED(timer_create, (clockid_t clock, struct sigevent *then, timer_t *to), (clock, then, to))
 REFUSES(int, ENOSYS, ENOSYS, pthread_mutex_setprioceiling, (pthread_mutex_t * m, int to, int *old), (m, to, old))
 
 /* What changes the host, or asks it what no log has. */

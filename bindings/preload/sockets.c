@@ -125,7 +125,7 @@ EXPORT int accept4(int fd, struct sockaddr *from, socklen_t *length, int flags) 
   int got;
   forget_told(opened_at(fd));
   do {
-    wait_for_door(fd, POLLIN);
+    if (!wait_for_door(fd, POLLIN)) return -1;
     got = (int)plain_call(&(detio_call){.kind = DETIO_TCP_ACCEPT, .descriptor = fd}, NULL, 0, NULL, 0);
   } while (got < 0 && errno == EINTR);
   if (got < 0) return got;

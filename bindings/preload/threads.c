@@ -101,6 +101,7 @@ static int take_slot(bool detached) {
   s->parked = s->joined = s->lacks = false;
   s->detached = detached;
   s->pushes = s->digest = 0;
+  forget_signals(i);
   return i;
 }
 
@@ -168,7 +169,11 @@ EXPORT int pthread_join(pthread_t thread, void **result) {
     turn_end();
     return EDEADLK;
   }
-  if (i >= 0 && slots[i].state == LIVE) park(&slots[i], "thread");
+  while (i >= 0 && slots[i].state == LIVE && park_lightly(&slots[i], "thread", LIGHT)) {
+    turn_end();
+    (void)is_interrupted(true);
+    turn();
+  }
   int code = join(i, thread, result);
   turn_end();
   return code;

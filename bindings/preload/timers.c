@@ -103,11 +103,13 @@ ssize_t read_timer(const opened_file *f, void *to, size_t room) {
     due = due_at(t, now);
     if (due || f->nonblock) break;
     if (t->next) {
+      slots[me].light = LIGHTER;
       (void)wait_until(t, t->clock, &then);
-      continue;
+    } else {
+      (void)park_lightly(t, "what a timerfd says", LIGHTER);
+      turn_end();
     }
-    park(t, "what a timerfd says");
-    turn_end();
+    if (is_interrupted(true)) return -1;
   }
   if (due) t->next = t->every ? t->next + (int64_t)due * t->every : 0;
   t->due = 0;

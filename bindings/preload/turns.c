@@ -3,10 +3,12 @@
 #include "preload.h"
 
 #include <linux/futex.h>
+#include <poll.h>
 #include <signal.h>
 #include <stdio.h>
 #include <stdlib.h>
 #include <string.h>
+#include <sys/eventfd.h>
 #include <sys/syscall.h>
 
 detio machine;
@@ -78,17 +80,13 @@ static void end_after_lack(int i) {
   if (lacking >= 0 && h >= 0 && slots[h].in_call && !call_goes_on((size_t)h)) end_lacking(lacking);
 }
 
-/* The slot's word is 0, and the lock is free: sleeps until another thread rouses it, or until this time of
- * CLOCK_MONOTONIC, or where there is none for two seconds: whether it was roused. */
-static bool sleep_at(slot *s, const struct timespec *until) {
+/* The slot's word is 0, and the lock is free: sleeps until another thread rouses it, or for two seconds: whether it was
+ * roused. */
+static bool sleep_at(slot *s) {
   static const struct timespec two_seconds = {2, 0};
   for (int spun = 0; spun < 64 && !__atomic_load_n(&s->word, __ATOMIC_ACQUIRE); spun++) __builtin_ia32_pause();
-  while (!__atomic_load_n(&s->word, __ATOMIC_ACQUIRE)) {
-    long r = until ? KERNEL(SYS_futex, &s->word, FUTEX_WAIT_BITSET | FUTEX_PRIVATE_FLAG, 0, until, NULL,
-                            FUTEX_BITSET_MATCH_ANY)
-                   : KERNEL(SYS_futex, &s->word, FUTEX_WAIT | FUTEX_PRIVATE_FLAG, 0, &two_seconds);
-    if (r == -ETIMEDOUT) return false;
-  }
+  while (!__atomic_load_n(&s->word, __ATOMIC_ACQUIRE))
+    if (KERNEL(SYS_futex, &s->word, FUTEX_WAIT | FUTEX_PRIVATE_FLAG, 0, &two_seconds) == -ETIMEDOUT) return false;
   return true;
 }
 
@@ -111,11 +109,12 @@ static void say_who_computes(int waiter) {
       h, waiter, s->calls, caller_text(s, &there));
 }
 
-/* Sleeps until another thread rouses this one, or until then: whether it was roused. The lock is held before and after,
- * and free meanwhile; a handler of a signal that comes meanwhile is no part of the run. */
-static bool nap_until(int i, const struct timespec *until) {
+/* Sleeps until another thread rouses this one, or a signal comes to it. The lock is held before and after, and free
+ * meanwhile. */
+void nap(int i) {
   slot *s = &slots[i];
-  __atomic_store_n(&s->word, 0, __ATOMIC_RELAXED);
+  __atomic_store_n(&s->word, 0, __ATOMIC_SEQ_CST);
+  if (__atomic_exchange_n(&s->poked, 0, __ATOMIC_SEQ_CST)) return;
   s->sleeps = true;
   if (run.replays) {
     end_with_log(holder(), i);
@@ -123,20 +122,15 @@ static bool nap_until(int i, const struct timespec *until) {
   }
   inside++;
   unlock_run();
-  bool roused = sleep_at(s, until);
-  lock_run();
-  while (!roused && !until) {
+  while (!sleep_at(s) && !__atomic_load_n(&arrived, __ATOMIC_SEQ_CST)) {
+    lock_run();
     say_who_computes(i);
     unlock_run();
-    roused = sleep_at(s, NULL);
-    lock_run();
   }
+  lock_run();
   inside--;
   s->sleeps = false;
-  return roused;
 }
-
-void nap(int i) { (void)nap_until(i, NULL); }
 
 /* Whether the outside has answered a thread that is parked for it, and it comes back at this push. */
 static bool comes_back(const slot *s) {
@@ -177,21 +171,27 @@ static bool end_deadlocked(void) {
 /* Of threads that are parked, while nobody runs: whether the outside will move one of them. A run that nobody moves
  * any more ends here. */
 static bool is_moved(void) {
-  bool outside = false, lacks = false;
+  bool outside = false, lacks = false, any = false;
   int first = -1;
   for (size_t i = 0; i < run.threads; i++) {
     const slot *s = &slots[i];
     if (s->state != LIVE) continue;
     if (first < 0) first = (int)i;
     if (!s->outside) continue;
+    any = true;
     if (run.replays ? s->until != NEVER : s->ready) return true;
     outside = outside || !run.replays;
     if (run.replays && !has_outcomes((int)i)) lacks = true, first = (int)i;
   }
   if (outside) return false;
+  int i = any ? -1 : taker();
+  if (i >= 0 && run.replays && !has_outcomes(i)) lacks = true, first = i;
   if (lacks) ends(LOG_ENDS, "the log ends here: thread %d, at its call %lu, waits for what it does not have", first,
                   slots[first].calls);
-  return end_deadlocked();
+  if (i < 0 || (run.replays && !next_signal(i))) return end_deadlocked();
+  if (!run.replays && !__atomic_load_n(&arrived, __ATOMIC_SEQ_CST)) return false;
+  interrupt(i);
+  return true;
 }
 
 /* A thread that is parked, or no thread at all, has the turn: it is pushed along, by ever longer steps. How far does
@@ -343,7 +343,7 @@ uint64_t next_ticket(void) { return ++tickets; }
 static void lie_down(const void *what, const char *word, bool outside) {
   slot *s = &slots[me];
   s->outside = outside;
-  s->ready = s->woken = false;
+  s->ready = s->woken = s->interrupted = s->signalled = false;
   s->until = outside && run.replays ? next_pushes(me) : NEVER;
   s->on = what;
   s->waits_for = word;
@@ -351,6 +351,7 @@ static void lie_down(const void *what, const char *word, bool outside) {
   s->pushes = 0;
   s->parked = s->wants_turn = true;
   (void)detio_work(&machine, (size_t)me, 1);
+  if (s->due) interrupt(me);
   settle();
 }
 
@@ -358,31 +359,52 @@ void park(const void *what, const char *word) {
   lie_down(what, word, false);
   await_turn();
 }
-
-/* At the turn: parks this thread until another unparks it, or until then: whether it was unparked. It has the turn
- * again. Of a recording the host's clock says when; of a rerun the log does, by the count of pushes. */
-bool park_until(const void *what, const struct timespec *until) {
-  slot *s = &slots[me];
-  lie_down(what, NULL, true);
-  if (!run.replays && s->parked && !nap_until(me, until)) s->ready = true;
-  await_turn();
-  return s->woken;
+bool park_lightly(const void *what, const char *word, enum light light) {
+  slots[me].light = light;
+  park(what, word);
+  slots[me].light = HEAVY;
+  return slots[me].interrupted;
 }
 
 bool park_outside(const void *what, void (*ready)(void *), void *given) {
+  slot *s = &slots[me];
+  if (!run.replays && !s->waker) s->waker = (int)KERNEL(SYS_eventfd2, 0, EFD_CLOEXEC | EFD_NONBLOCK);
   lie_down(what, NULL, true);
-  if (!run.replays && slots[me].parked) {
-    slots[me].at_host = true;
+  if (!run.replays && s->parked) {
+    __atomic_store_n(&s->at_host, true, __ATOMIC_SEQ_CST);
     unlock_run();
-    inside++; /* as in nap_until */
+    inside++; /* as in nap */
     ready(given);
     inside--;
     lock_run();
-    slots[me].at_host = false;
-    slots[me].ready = true;
+    s->at_host = false;
+    s->ready = true;
   }
   await_turn();
-  return slots[me].woken;
+  s->light = HEAVY;
+  return s->woken;
+}
+
+/* The time from now until then. */
+static struct timespec time_left(const struct timespec *until) {
+  struct timespec now;
+  KERNEL(SYS_clock_gettime, CLOCK_MONOTONIC, &now);
+  int64_t left = (until->tv_sec - now.tv_sec) * (int64_t)1000000000 + until->tv_nsec - now.tv_nsec;
+  return left > 0 ? (struct timespec){left / 1000000000, left % 1000000000} : (struct timespec){0, 0};
+}
+bool wait_at_host(struct pollfd *doors, size_t count, const struct timespec *until) {
+  slot *s = &slots[me];
+  for (;;) {
+    uint64_t woken;
+    if (s->waker > 0) KERNEL(SYS_read, s->waker, &woken, sizeof woken); /* of a wait before */
+    s->signalled = s->light && __atomic_load_n(&arrived, __ATOMIC_SEQ_CST);
+    bool over = s->signalled || !__atomic_load_n(&s->parked, __ATOMIC_SEQ_CST);
+    struct timespec left = over ? (struct timespec){0, 0} : until ? time_left(until) : (struct timespec){0, 0};
+    doors[count] = (struct pollfd){s->waker > 0 ? s->waker : -1, POLLIN, 0};
+    long n = KERNEL(SYS_ppoll, doors, count + 1, over || until ? &left : NULL, NULL, 0);
+    bool ready = n > (doors[count].revents != 0);
+    if (over || n == 0 || ready) return ready;
+  }
 }
 
 void unpark(int i) {

@@ -73,6 +73,8 @@ CASES = (
     Case("threads", ("@threads",)),
     Case("sockets", ("@sockets",)),
     Case("process", ("@process",), status=7),
+    Case("handlers", ("@handlers",), reruns=10),
+    Case("handlers in parallel", ("@handlers",), ("--parallel",)),
     Case("clocks", ("@clocks",), native=False),
     Case("checked", ("@checked",), input="input.txt"),
     Case("lines", ("@lines",), input="input.txt", stdin=True),
@@ -731,7 +733,6 @@ STRANGERS = {
     "by_syscall": "system call 79 goes past the run", "by_fork": "fork: ", "by_vfork": "fork: ",
     "by_clone": "clone is not",
     "by_spawn": "posix_spawn: ", "by_system": "system: ", "by_popen": "popen: ",
-    "by_handler": "the handler of signal 14",
     "by_mapping": "a shared mapping", "by_ring": "system call 425 is not", "by_thread": "no number for one more thread",
     "by_numbers": "no number for one more file", "by_instruction": "system call 79 goes around"}
 
@@ -751,7 +752,7 @@ def strangers(trial: Trial) -> None:
         if not quiet:
             where = callers_in(run, program)
             trial.check(where == [name], f"strangers: {name}: it was called by {where}: {run.ours()}")
-        if name not in ("by_fork", "by_vfork", "by_spawn", "by_handler"):
+        if name not in ("by_fork", "by_vfork", "by_spawn"):
             trial.check(again.alone() == run.alone(), f"strangers: {name}: rerun {again.status} {again.ours()}")
         strict = trial.run("strict.log", program, str(way), folder=folder, options=("--strict", *some))
         if "no filter of system calls" in strict.ours():
@@ -760,8 +761,7 @@ def strangers(trial: Trial) -> None:
         trial.check((strict.status, strict.out) == (STRICT, b"") and said in strict.ours(),
                     f"strangers: {name}: strict: {strict.status} {strict.ours()}")
         again = trial.rerun("strict.log", folder=folder)
-        wanted = (STRICT, LOG_ENDS) if name == "by_handler" else (STRICT,)
-        trial.check(again.status in wanted, f"strangers: {name}: strict rerun: {again.status} {again.ours()}")
+        trial.check(again.status == STRICT, f"strangers: {name}: strict rerun: {again.status} {again.ours()}")
     for it in "pigz", "sort":
         if shutil.which(it):
             strict = trial.run("strict.log", it, "data.txt" if it == "sort" else "-kf",
@@ -957,7 +957,8 @@ def compare_table(trial: Trial) -> None:
 OTHERS: dict[str, Callable[[Trial], None]] = {
     "table": compare_table, "closed": closed_program, "killed": killed, "cut": cut, "differing": differing, "statuses":
     statuses, "stuck": stuck, "diverges": diverges, "stops": stops, "computes": computing, "quiet": quiet, "net":
-    net, "passed": passed, "faults": faults, "own-identity": other_user, "strangers": strangers, "seeds": seeds,
+    net, "passed": passed, "faults": faults, "own-identity": other_user, "strangers": strangers,
+    "seeds": seeds,
     "children": children,
     "units": units, "sanitizers": sanitizers, "addresses": addresses, "few": few_addresses, "growing": growing,
     "long": long_log, "in-turn": in_turn,

@@ -14,8 +14,6 @@
 #include <unistd.h>
 
 #define WAY(name) __attribute__((noinline)) static void name(void)
-static volatile int handled;
-static void handles(int number) { handled = number; }
 static void *waits(void *given) { return given; }
 static int does_nothing(void *given) { return given != NULL; }
 static void await(pid_t child) {
@@ -58,12 +56,6 @@ WAY(by_popen) {
   FILE *f = popen("exit 0", "r");
   said("by_popen", f ? pclose(f) : -1);
 }
-WAY(by_handler) {
-  signal(SIGALRM, handles);
-  ualarm(20000, 0);
-  for (int i = 0; i < 1000000 && !handled; i++) usleep(1000);
-  said("by_handler", handled == SIGALRM);
-}
 WAY(by_mapping) {
   int f = open("data.txt", O_RDWR);
   said("by_mapping", mmap(NULL, 4096, PROT_READ | PROT_WRITE, MAP_SHARED, f, 0) == MAP_FAILED);
@@ -88,7 +80,7 @@ WAY(by_instruction) {
 
 int main(int count, char **words) {
   static void (*const ways[])(void) = {by_syscall, by_fork,    by_vfork, by_clone,  by_spawn,   by_system,     by_popen,
-                                       by_handler, by_mapping, by_ring,  by_thread, by_numbers, by_instruction};
+                                       by_mapping, by_ring,    by_thread, by_numbers, by_instruction};
   size_t way = count > 1 ? (size_t)atoi(words[1]) : 0;
   if (way >= sizeof ways / sizeof *ways) return 9;
   ways[way]();

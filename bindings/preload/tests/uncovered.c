@@ -123,7 +123,6 @@ int main(void) {
   REFUSED(lio_listio64, ENOSYS);
   REFUSED(sem_open, ENOSYS);
   REFUSED(sem_unlink, ENOSYS);
-  REFUSED(timer_create, ENOSYS);
   REFUSED(pthread_mutex_setprioceiling, ENOSYS);
   REFUSED(mount, ENOSYS);
   REFUSED(unshare, ENOSYS);
