@@ -75,6 +75,10 @@ CASES = (
     Case("process", ("@process",), status=7),
     Case("handlers", ("@handlers",), reruns=10),
     Case("handlers in parallel", ("@handlers",), ("--parallel",)),
+    Case("ended by a signal", ("@moments", "default"), status=128 + signal.SIGTERM),
+    Case("moments", ("@moments",), native=False),
+    Case("moments that are sent", ("@moments", "send"), native=False),
+    Case("moments in parallel", ("@moments", "send"), ("--parallel", "--overlap"), native=False),
     Case("clocks", ("@clocks",), native=False),
     Case("checked", ("@checked",), input="input.txt"),
     Case("lines", ("@lines",), input="input.txt", stdin=True),
@@ -771,6 +775,28 @@ def strangers(trial: Trial) -> None:
                         f"strangers: {it}: strict: {strict.status} {strict.ours()}")
 
 
+def from_outside(trial: Trial) -> None:
+    """Handlers of signals that another process sends at any moment come again at the same calls."""
+    folder = trial.room / "from-outside"
+    make_inputs(folder)
+    words = [str(trial.library / "detio-launch"), "run", "--log", "outside.log", "--force", "--",
+             str(trial.room / "programs/moments"), "outside"]
+    with open(folder / "printed", "wb") as out:
+        process = subprocess.Popen(words, cwd=folder, stdout=out, stdin=subprocess.DEVNULL, env=trial.environment())
+        time.sleep(0.3)
+        for _ in range(1000):
+            if process.poll() is None:
+                process.send_signal(signal.SIGALRM)
+                time.sleep(0.01)
+        process.kill()
+        process.wait()
+    printed = (folder / "printed").read_bytes()
+    trial.check((process.returncode, printed.count(b"14 at ")) == (0, 20), f"from outside: status {process.returncode}")
+    for number in range(5):
+        again = trial.rerun("outside.log", folder=folder)
+        trial.check((again.status, again.out) == (0, printed), f"from outside: rerun {number}: {again.status} {again.ours()}")
+
+
 def compiles(words: list[str]) -> bool:
     """Whether a compiler takes these words."""
     return subprocess.run(words, stdout=subprocess.DEVNULL, stderr=subprocess.DEVNULL).returncode == 0
@@ -958,7 +984,7 @@ OTHERS: dict[str, Callable[[Trial], None]] = {
     "table": compare_table, "closed": closed_program, "killed": killed, "cut": cut, "differing": differing, "statuses":
     statuses, "stuck": stuck, "diverges": diverges, "stops": stops, "computes": computing, "quiet": quiet, "net":
     net, "passed": passed, "faults": faults, "own-identity": other_user, "strangers": strangers,
-    "seeds": seeds,
+    "from-outside": from_outside, "seeds": seeds,
     "children": children,
     "units": units, "sanitizers": sanitizers, "addresses": addresses, "few": few_addresses, "growing": growing,
     "long": long_log, "in-turn": in_turn,
