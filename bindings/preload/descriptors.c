@@ -457,8 +457,13 @@ ON_HOST(syncfs, (int fd), (fd), ASK_FSYNC, 0, 0)
 ON_HOST(sync_file_range, (int fd, off64_t from, off64_t count, unsigned how), (fd, from, count, how), ASK_FSYNC, 1, 0)
 ON_HOST(fchmod, (int fd, mode_t mode), (fd, mode), ASK_FCHMOD, mode, 0)
 ON_HOST(fchown, (int fd, uid_t user, gid_t group), (fd, user, group), ASK_FCHOWN, user, group)
-/* A lock that waits is asked for again each 2 milliseconds, so that it holds nobody up. */
-static void wait_a_little(void) { (void)poll(NULL, 0, 2); }
+/* A lock that waits is asked for again each 2 milliseconds, so that it holds nobody up: false where a handler has it
+ * fail. */
+static bool wait_a_little(void) {
+  unsigned before = slots[me].cut;
+  (void)poll(NULL, 0, 2);
+  return slots[me].cut == before || (errno = EINTR, false);
+}
 EXPORT int flock(int fd, int how) {
   NEXT(flock);
   OFF(next(fd, how));
@@ -466,7 +471,7 @@ EXPORT int flock(int fd, int how) {
   for (;;) {
     int r = on_host(fd, ASK_FLOCK, how, 0);
     if (!r || errno != EWOULDBLOCK || (how & LOCK_NB)) return r;
-    wait_a_little();
+    if (!wait_a_little()) return -1;
   }
 }
 EXPORT int posix_fadvise(int fd, off_t from, off_t count, int how) {
@@ -572,7 +577,7 @@ static int lock_record(int fd, int what, struct flock *lock) {
     int r = (int)ask(&(question){.what = ASK_LOCKED, .at = opened_at(fd)->real, .a = how, .bytes = &asked,
                                  .length = sizeof asked, .room = sizeof asked}, lock, NULL);
     if (!r || !waits || (errno != EAGAIN && errno != EACCES)) return r;
-    wait_a_little();
+    if (!wait_a_little()) return -1;
   }
 }
 static int control(int fd, int what, long given) {

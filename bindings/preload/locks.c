@@ -7,8 +7,14 @@
 #include <stdio.h>
 #include <string.h>
 #include <sys/random.h>
+#include <sys/resource.h>
 #include <sys/syscall.h>
+#include <sys/sysinfo.h>
+#include <sys/time.h>
+#include <sys/times.h>
+#include <sys/utsname.h>
 #include <threads.h>
+#include <unistd.h>
 
 /* A mutex as we use the C library's: its owner's slot + 1, how often that has it, and its kind where that has it. */
 typedef struct { int owner, count, unused[2], kind; } mutex;
@@ -442,6 +448,24 @@ static bool is_of_process(long n) {
 static bool makes_stranger(long n) {
   return n == SYS_clone || n == SYS_clone3 || n == SYS_fork || n == SYS_vfork || n == SYS_io_uring_setup;
 }
+/* .. and those that have a function here: whether this is one. */
+static bool is_function(long n, long a, long b, long *result) {
+  switch (n) {
+  case SYS_gettid: return *result = gettid(), true;
+  case SYS_getpid: return *result = getpid(), true;
+  case SYS_getppid: return *result = getppid(), true;
+  case SYS_kill: return *result = kill((pid_t)a, (int)b), true;
+  case SYS_clock_gettime: return *result = clock_gettime((clockid_t)a, (struct timespec *)b), true;
+  case SYS_clock_getres: return *result = clock_getres((clockid_t)a, (struct timespec *)b), true;
+  case SYS_gettimeofday: return *result = gettimeofday((struct timeval *)a, NULL), true;
+  case SYS_time: return *result = time((time_t *)a), true;
+  case SYS_times: return *result = times((struct tms *)a), true;
+  case SYS_getrusage: return *result = getrusage((int)a, (struct rusage *)b), true;
+  case SYS_sysinfo: return *result = sysinfo((struct sysinfo *)a), true;
+  case SYS_uname: return *result = uname((struct utsname *)a), true;
+  default: return false;
+  }
+}
 EXPORT long syscall(long n, ...) {
   va_list given;
   va_start(given, n);
@@ -450,12 +474,12 @@ EXPORT long syscall(long n, ...) {
   va_end(given);
   if (takes_part()) {
     char kind[32];
+    long r;
     NOTE_CALLER();
     if (n == SYS_futex) return futex((int *)a, (int)b, (int)c, (const struct timespec *)d);
     if (n == SYS_getrandom) return getrandom((void *)a, (size_t)b, (unsigned)c);
-    if (n == SYS_gettid) return gettid();
     if (n == SYS_tgkill) return tgkill((pid_t)a, (pid_t)b, (int)c);
-    if (n == SYS_kill) return kill((pid_t)a, (int)b);
+    if (is_function(n, a, b, &r)) return r;
     snprintf(kind, sizeof kind, "system call %ld", n);
     if (makes_stranger(n)) {
       uncovered(kind, "%s is not covered: refused, in a rerun too", kind);

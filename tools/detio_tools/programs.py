@@ -70,6 +70,7 @@ CASES = (
     Case("timers", ("@timers",), reruns=10),
     Case("uncovered", ("@uncovered",), native=False),
     Case("locks", ("@locks",)),
+    Case("records", ("@records",), input="input.txt", reruns=3),
     Case("threads", ("@threads",)),
     Case("sockets", ("@sockets",)),
     Case("process", ("@process",), status=7),

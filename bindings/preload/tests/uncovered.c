@@ -127,6 +127,11 @@ int main(void) {
   REFUSED(mount, ENOSYS);
   REFUSED(unshare, ENOSYS);
   REFUSED(acct, ENOSYS);
+  REFUSED(__adjtimex, ENOSYS);
+  REFUSED(adjtime, ENOSYS);
+  REFUSED(adjtimex, ENOSYS);
+  REFUSED(ntp_adjtime, ENOSYS);
+  REFUSED(ntp_gettimex, ENOSYS);
   REFUSED(chroot, ENOSYS);
   REFUSED(vhangup, ENOSYS);
   REFUSED(sethostname, ENOSYS);
