@@ -223,7 +223,8 @@ static ssize_t reads(int fd, void *bytes, size_t count, off_t at) {
   const opened_file *f = opened_at(fd);
   if (f->kind == EVENT && at < 0) return read_event(f, bytes, count);
   if (f->kind == TIMER && at < 0) return read_timer(f, bytes, count);
-  if (f->kind >= EVENT) return errno = at < 0 ? EINVAL : ESPIPE, -1;
+  if (f->kind >= EVENT || (f->kind == NET && at >= 0)) return errno = at < 0 ? EINVAL : ESPIPE, -1;
+  if (f->kind == NET) return receive_net(fd, bytes, count, 0, NULL, NULL, NULL);
   forget_told(f);
   bool all = f->kind == HOST && !f->waits ? true : f->kind == MEMORY;
   size_t done = 0;
@@ -298,7 +299,8 @@ static ssize_t writes(int fd, const char *bytes, size_t count, off_t at) {
   if (f->kind == STANDARD && at >= 0) return errno = ESPIPE, -1; /* as of a pipe: see lseek */
   if (f->kind == STANDARD) return write_standard(f->real, bytes, count);
   if (f->kind == EVENT && at < 0) return write_event(f, bytes, count);
-  if (f->kind >= EVENT) return errno = at < 0 ? EINVAL : ESPIPE, -1;
+  if (f->kind >= EVENT || (f->kind == NET && at >= 0)) return errno = at < 0 ? EINVAL : ESPIPE, -1;
+  if (f->kind == NET) return send_net(fd, bytes, count, 0, NULL, 0);
   forget_told(f);
   if (at < 0) digest(bytes, f->kind == HOST || f->kind == STREAM ? count : 0);
   size_t done = 0;
@@ -539,7 +541,7 @@ EXPORT int dup2(int fd, int to) {
     return is_ours(fd) || is_ours(to) || is_behind(to) ? (errno = EBADF, -1) : next(fd, to);
   if (fd == ORACLE || to == ORACLE || opened_at(fd)->kind == NONE) return errno = EBADF, -1;
   enum kind kind = opened_at(to)->kind;
-  if (fd != to && (kind == HOST || kind == STREAM || kind == LISTENER)) (void)close(to); /* the machine keeps doors */
+  if (fd != to && (kind == HOST || kind == STREAM || kind == LISTENER || kind == NET)) (void)close(to); /* the machine keeps doors */
   int r = (int)call_on(fd, DETIO_DUP2, to);
   return r < 0 || fd == to ? r : refers_too(fd, r);
 }
@@ -682,7 +684,7 @@ EXPORT int pipe2(int fds[2], int flags) {
 EXPORT int socketpair(int domain, int type, int protocol, int fds[2]) {
   NEXT(socketpair);
   OFF(next(domain, type, protocol, fds));
-  if ((type & 15) != 1) return errno = EPROTONOSUPPORT, -1;
+  if ((type & 15) != 1) return new_nets(domain, type, protocol, fds);
   return make_pair(DETIO_SOCKETPAIR, fds, type & (O_NONBLOCK | O_CLOEXEC));
 }
 

@@ -65,7 +65,9 @@ static const char *const questions[] = {
     [ASK_TIMES] = "times",
     [ASK_AFFINITY] = "sched_getaffinity",
     [ASK_SIGNALS] = "sigpending",
-    [ASK_TIMER] = "a timer"};
+    [ASK_TIMER] = "a timer",
+    [ASK_NET] = "what a socket does",
+    [ASK_HOSTS] = "the addresses of a host"};
 enum { QUESTIONS = sizeof questions / sizeof *questions };
 static const char *const requests[] = {"",       "open",    "a read", "a write",  "lseek",
                                        "listen", "connect", "accept", "shutdown", "close"};

@@ -175,6 +175,8 @@ static long ask_host(const question *q, uint8_t *out) {
   case ASK_USAGE: return KERNEL(SYS_getrusage, q->a, out);
   case ASK_TIMES: return KERNEL(SYS_times, out);
   case ASK_AFFINITY: return KERNEL(SYS_sched_getaffinity, q->a, q->room, out);
+  case ASK_NET: return call_net(q, out);
+  case ASK_HOSTS: return call_hosts(q, out);
   case ASK_TIMER: return call_timer((long)q->a, q->b, q->bytes, out);
   case ASK_SIGNALS: return KERNEL(SYS_rt_sigpending, out, 8);
   default: return ask_open(q, out);
@@ -186,7 +188,9 @@ static size_t bytes_of(const question *q, long result) {
   if (result < 0) return 0;
   switch (q->what) {
   case ASK_ABOUT: case ASK_RANDOM: case ASK_PREAD: case ASK_READLINK: case ASK_GETCWD: case ASK_LISTING:
-  case ASK_SOCKNAME: case ASK_PEERNAME: case ASK_AFFINITY: return (size_t)result < q->room ? (size_t)result : q->room;
+  case ASK_SOCKNAME: case ASK_PEERNAME: case ASK_AFFINITY: case ASK_HOSTS:
+    return (size_t)result < q->room ? (size_t)result : q->room;
+  case ASK_NET: return bytes_of_net(q, result);
   case ASK_GETXATTR: case ASK_FGETXATTR: case ASK_LISTXATTR: case ASK_FLISTXATTR: return q->a ? (size_t)result : 0;
   default: return q->room;
   }

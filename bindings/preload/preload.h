@@ -52,7 +52,8 @@ enum ask {
   ASK_FSYNC, ASK_FLOCK, ASK_LOCKED, ASK_UNLINK, ASK_RENAME, ASK_LINK, ASK_SYMLINK, ASK_MKDIR, ASK_MKNOD, ASK_ACCESS,
   ASK_CHMOD, ASK_FCHMOD, ASK_CHOWN, ASK_FCHOWN, ASK_UTIMES, ASK_READLINK, ASK_REALPATH, ASK_GETCWD, ASK_CHDIR,
   ASK_FCHDIR, ASK_LISTING, ASK_GETXATTR, ASK_FGETXATTR, ASK_LISTXATTR, ASK_FLISTXATTR, ASK_IOCTL, ASK_SOCKNAME,
-  ASK_PEERNAME, ASK_KILL, ASK_CHILD, ASK_SYSINFO, ASK_UNAME, ASK_USAGE, ASK_TIMES, ASK_AFFINITY, ASK_SIGNALS, ASK_TIMER
+  ASK_PEERNAME, ASK_KILL, ASK_CHILD, ASK_SYSINFO, ASK_UNAME, ASK_USAGE, ASK_TIMES, ASK_AFFINITY, ASK_SIGNALS, ASK_TIMER,
+  ASK_NET, ASK_HOSTS
 };
 
 typedef struct {
@@ -98,6 +99,7 @@ typedef struct {
   uint32_t digest;         /* of what it has asked and written since its last outcome */
   int error;               /* of the host, of its last outcome */
   int opened;              /* the descriptor of the host that it opened last */
+  int made[2];             /* .. and those of sockets that the host made for a question */
   const question *asked;   /* what it asks the oracle, or how it opens a door */
   int how, mode;           /* the flags and the mode of such an opening */
   void *caller;            /* where the call that is under way, or was made last, returns to in the program */
@@ -258,7 +260,7 @@ void uncovered(const char *kind, const char *format, ...) __attribute__((format(
 void uncovered_at(const void *caller, const char *kind, const char *format, ...) __attribute__((format(printf, 3, 4)));
 
 /* descriptors.c: what is known of each number of the machine */
-enum kind { NONE, MEMORY, PIPE, HOST, STREAM, LISTENER, SOCKET, STANDARD, EVENT, EPOLL, TIMER };
+enum kind { NONE, MEMORY, PIPE, HOST, STREAM, LISTENER, SOCKET, NET, STANDARD, EVENT, EPOLL, TIMER };
 /* What is on its way in memory, from one end to the other. */
 typedef struct {
   int64_t filled;
@@ -271,6 +273,7 @@ typedef struct {
   bool nonblock, directory, waits;
   channel *in, *out; /* of an end of a pipe or pair */
   void *object;      /* of EVENT, EPOLL and TIMER */
+  int64_t in_nanos, out_nanos; /* of NET: how long a read or a write waits; 0: for ever */
 } opened_file;
 bool is_ours(int fd);
 opened_file *opened_at(int fd);
@@ -297,6 +300,26 @@ enum { LOOKS_AGAIN = -2 };
 /* Waits until one is ready, or for so long (-1: for ever): how many are; or LOOKS_AGAIN, once `changes` (if it is not
  * NULL) is another number than `seen`. */
 int poll_all(struct pollfd *fds, size_t count, int64_t nanos, const unsigned *changes, unsigned seen);
+
+/* nets.c */
+struct msghdr;
+struct sockaddr;
+long call_net(const question *, uint8_t *out);
+long call_hosts(const question *, uint8_t *out);
+size_t bytes_of_net(const question *, long result);
+int new_net(int domain, int type, int protocol);
+int new_nets(int domain, int type, int protocol, int fds[2]);
+int bind_net(int fd, const struct sockaddr *, unsigned length);
+int listen_net(int fd, int count);
+int shut_net(int fd, int how);
+int connect_net(int fd, const struct sockaddr *, unsigned length);
+int accept_net(int fd, int flags);
+ssize_t send_net(int fd, const void *, size_t count, int flags, const struct sockaddr *, unsigned length);
+ssize_t receive_net(int fd, void *, size_t count, int flags, struct sockaddr *, unsigned *length, int *said);
+ssize_t send_parts(int fd, const struct msghdr *, int flags);
+ssize_t receive_parts(int fd, struct msghdr *, int flags);
+int set_net(int fd, int level, int option, const void *, unsigned length);
+int get_net(int fd, int level, int option, void *, unsigned *length);
 
 /* events.c */
 short ready_event(const opened_file *, short events);

@@ -15,7 +15,9 @@
 EXPORT int socket(int domain, int type, int protocol) {
   NEXT(socket);
   OFF(next(domain, type, protocol));
-  if (domain != AF_INET || (type & 15) != SOCK_STREAM) {
+  bool known = domain == AF_UNIX || domain == AF_INET || domain == AF_INET6 || domain == AF_NETLINK;
+  if (known && (domain != AF_INET || (type & 15) != SOCK_STREAM)) return new_net(domain, type, protocol);
+  if (!known) {
     uncovered("socket", "sockets of family %d and type %d are not covered: refused, in a rerun too", domain, type & 15);
     return errno = EAFNOSUPPORT, -1;
   }
@@ -43,6 +45,15 @@ static int becomes(int fd, const detio_call *call, enum kind kind) {
   return 0;
 }
 
+/* .. or a socket that the host has. */
+static int becomes_net(int fd) {
+  bool nonblock = opened_at(fd)->nonblock;
+  int made = new_net(AF_INET, SOCK_STREAM, 0);
+  if (made < 0 || dup2(made, fd) < 0) return -1;
+  (void)close(made);
+  return nonblock ? fcntl(fd, F_SETFL, O_NONBLOCK) : 0;
+}
+
 static bool is_socket(int fd);
 /* What fails on a descriptor that is none that waits for its address: with this error, where it is a socket. */
 static int not_new(int fd, int error) { return is_socket(fd) ? (errno = error, -1) : -1; }
@@ -54,6 +65,7 @@ EXPORT int bind(int fd, const struct sockaddr *to, socklen_t length) {
   if (!is_ours(fd)) return next(fd, to, length);
   const struct sockaddr_in *in = (const struct sockaddr_in *)to;
   opened_file *f = opened_at(fd);
+  if (f->kind == NET) return bind_net(fd, to, length);
   if (f->kind != SOCKET) return not_new(fd, EINVAL);
   if (length < sizeof *in || in->sin_family != AF_INET) return errno = EAFNOSUPPORT, -1;
   if (in->sin_addr.s_addr == htonl(INADDR_ANY))
@@ -67,6 +79,7 @@ EXPORT int listen(int fd, int count) {
   OFF(next(fd, count));
   if (!is_ours(fd)) return next(fd, count);
   opened_file *f = opened_at(fd);
+  if (f->kind == NET) return listen_net(fd, count);
   if (f->kind == LISTENER) return 0;
   if (f->kind != SOCKET) return not_new(fd, EINVAL);
   return becomes(fd, &(detio_call){.kind = DETIO_TCP_LISTEN}, LISTENER);
@@ -77,12 +90,10 @@ EXPORT int connect(int fd, const struct sockaddr *to, socklen_t length) {
   if (!is_ours(fd)) return next(fd, to, length);
   const struct sockaddr_in *in = (const struct sockaddr_in *)to;
   enum kind kind = opened_at(fd)->kind;
+  if (kind == NET) return connect_net(fd, to, length);
   if (kind != SOCKET) return not_new(fd, EISCONN);
   if (length < sizeof *in || in->sin_family != AF_INET) return errno = EAFNOSUPPORT, -1;
-  if (!is_loopback(in)) {
-    uncovered("connect", "a connection to another host than this one is not covered: refused, in a rerun too");
-    return errno = ENETUNREACH, -1;
-  }
+  if (!is_loopback(in)) return becomes_net(fd) ? -1 : connect_net(fd, to, length);
   return becomes(fd, &(detio_call){.kind = DETIO_TCP_CONNECT, .number = ntohs(in->sin_port)}, STREAM);
 }
 
@@ -97,7 +108,7 @@ static int address_of(int fd, enum ask what, struct sockaddr *to, socklen_t *len
     if (what == ASK_PEERNAME && f->kind == SOCKET) return errno = ENOTCONN, -1;
     if (f->kind == PIPE) in.sin_family = AF_UNIX;
     memcpy(bytes, &in, there = f->kind == PIPE ? sizeof(sa_family_t) : sizeof in);
-  } else if (f->kind == STREAM || f->kind == LISTENER) {
+  } else if (f->kind == STREAM || f->kind == LISTENER || f->kind == NET) {
     if (ask(&(question){.what = what, .at = f->real, .room = sizeof bytes}, bytes, &there) < 0) return -1;
   } else {
     return errno = ENOTSOCK, -1;
@@ -124,6 +135,11 @@ EXPORT int accept4(int fd, struct sockaddr *from, socklen_t *length, int flags) 
   if (!is_ours(fd)) return next(fd, from, length, flags);
   int got;
   forget_told(opened_at(fd));
+  if (opened_at(fd)->kind == NET) {
+    got = accept_net(fd, flags);
+    if (got >= 0 && from && length) (void)address_of(got, ASK_PEERNAME, from, length);
+    return got;
+  }
   do {
     if (!wait_for_door(fd, POLLIN)) return -1;
     got = (int)plain_call(&(detio_call){.kind = DETIO_TCP_ACCEPT, .descriptor = fd}, NULL, 0, NULL, 0);
@@ -144,6 +160,7 @@ EXPORT int shutdown(int fd, int how) {
   NEXT(shutdown);
   OFF(next(fd, how));
   if (!is_ours(fd)) return next(fd, how);
+  if (opened_at(fd)->kind == NET) return shut_net(fd, how);
   int r = (int)plain_call(&(detio_call){.kind = DETIO_SHUTDOWN, .descriptor = fd, .choice = (uint32_t)how}, NULL, 0,
                           NULL, 0);
   if (!r) note_closed(opened_at(fd), how != SHUT_WR, how != SHUT_RD);
@@ -153,7 +170,7 @@ EXPORT int shutdown(int fd, int how) {
 static bool is_socket(int fd) {
   enum kind kind = opened_at(fd)->kind;
   if (kind == NONE) return errno = EBADF, false;
-  if (kind == STREAM || kind == PIPE || kind == LISTENER || kind == SOCKET) return true;
+  if (kind == STREAM || kind == PIPE || kind == LISTENER || kind == SOCKET || kind == NET) return true;
   return errno = ENOTSOCK, false;
 }
 EXPORT ssize_t recv(int fd, void *bytes, size_t count, int flags) {
@@ -161,6 +178,7 @@ EXPORT ssize_t recv(int fd, void *bytes, size_t count, int flags) {
   OFF(next(fd, bytes, count, flags));
   if (!is_ours(fd)) return next(fd, bytes, count, flags);
   if (!is_socket(fd)) return -1;
+  if (opened_at(fd)->kind == NET) return receive_net(fd, bytes, count, flags, NULL, NULL, NULL);
   if (flags & ~(MSG_NOSIGNAL | MSG_DONTWAIT | MSG_WAITALL | MSG_CMSG_CLOEXEC)) {
     uncovered("recv", "recv with flags %d is not covered: refused, in a rerun too", flags);
     return errno = EOPNOTSUPP, -1;
@@ -184,6 +202,7 @@ EXPORT ssize_t recvfrom(int fd, void *bytes, size_t count, int flags, struct soc
   NEXT(recvfrom);
   OFF(next(fd, bytes, count, flags, from, length));
   if (!is_ours(fd)) return next(fd, bytes, count, flags, from, length);
+  if (opened_at(fd)->kind == NET) return receive_net(fd, bytes, count, flags, from, length, NULL);
   if (from && length) *length = 0;
   return recv(fd, bytes, count, flags);
 }
@@ -196,18 +215,21 @@ EXPORT ssize_t send(int fd, const void *bytes, size_t count, int flags) {
   NEXT(send);
   OFF(next(fd, bytes, count, flags));
   if (!is_ours(fd)) return next(fd, bytes, count, flags);
+  if (opened_at(fd)->kind == NET) return send_net(fd, bytes, count, flags, NULL, 0);
   return is_socket(fd) ? write(fd, bytes, count) : -1;
 }
 EXPORT ssize_t sendto(int fd, const void *bytes, size_t count, int flags, const struct sockaddr *to, socklen_t length) {
   NEXT(sendto);
   OFF(next(fd, bytes, count, flags, to, length));
   if (!is_ours(fd)) return next(fd, bytes, count, flags, to, length);
+  if (opened_at(fd)->kind == NET) return send_net(fd, bytes, count, flags, to, length);
   return send(fd, bytes, count, flags);
 }
 EXPORT ssize_t recvmsg(int fd, struct msghdr *message, int flags) {
   NEXT(recvmsg);
   OFF(next(fd, message, flags));
   if (!is_ours(fd)) return next(fd, message, flags);
+  if (opened_at(fd)->kind == NET) return receive_parts(fd, message, flags);
   message->msg_namelen = 0;
   message->msg_controllen = 0;
   message->msg_flags = 0;
@@ -224,6 +246,7 @@ EXPORT ssize_t sendmsg(int fd, const struct msghdr *message, int flags) {
   NEXT(sendmsg);
   OFF(next(fd, message, flags));
   if (!is_ours(fd)) return next(fd, message, flags);
+  if (opened_at(fd)->kind == NET) return send_parts(fd, message, flags);
   if (message->msg_controllen) return errno = EOPNOTSUPP, -1;
   return is_socket(fd) ? writev(fd, message->msg_iov, (int)message->msg_iovlen) : -1;
 }
@@ -233,6 +256,7 @@ EXPORT int setsockopt(int fd, int level, int option, const void *value, socklen_
   NEXT(setsockopt);
   OFF(next(fd, level, option, value, length));
   if (!is_ours(fd)) return next(fd, level, option, value, length);
+  if (opened_at(fd)->kind == NET) return set_net(fd, level, option, value, length);
   return is_socket(fd) ? 0 : -1;
 }
 EXPORT int getsockopt(int fd, int level, int option, void *value, socklen_t *length) {
@@ -240,6 +264,7 @@ EXPORT int getsockopt(int fd, int level, int option, void *value, socklen_t *len
   OFF(next(fd, level, option, value, length));
   if (!is_ours(fd)) return next(fd, level, option, value, length);
   if (!is_socket(fd)) return -1;
+  if (opened_at(fd)->kind == NET) return get_net(fd, level, option, value, length);
   int is = option == SO_TYPE ? SOCK_STREAM
            : option == SO_DOMAIN ? (opened_at(fd)->kind == PIPE ? AF_UNIX : AF_INET)
            : option == SO_ACCEPTCONN ? opened_at(fd)->kind == LISTENER

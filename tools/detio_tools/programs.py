@@ -73,6 +73,8 @@ CASES = (
     Case("records", ("@records",), input="input.txt", reruns=3),
     Case("threads", ("@threads",)),
     Case("sockets", ("@sockets",)),
+    Case("nets", ("@nets",)),
+    Case("nets in parallel", ("@nets",), ("--parallel",)),
     Case("process", ("@process",), status=7),
     Case("handlers", ("@handlers",), reruns=10),
     Case("handlers in parallel", ("@handlers",), ("--parallel",)),

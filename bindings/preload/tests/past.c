@@ -1,6 +1,7 @@
 /* Reaches the kernel past the library, as no C library does, and says nothing of it. */
 #define _GNU_SOURCE
 #include <fcntl.h>
+#include <signal.h>
 #include <sys/syscall.h>
 #include <unistd.h>
 
@@ -8,7 +9,7 @@ int main(void) {
   syscall(SYS_mkdir, "made-past", 0700);
   syscall(SYS_open, "opened-past", O_CREAT | O_WRONLY, 0600);
   syscall(SYS_openat, AT_FDCWD, "at-past", O_CREAT | O_WRONLY, 0600);
-  syscall(SYS_kill, getppid(), 0);
+  syscall(SYS_rt_sigqueueinfo, getppid(), 0, &(siginfo_t){.si_code = SI_QUEUE});
   syscall(SYS_unlinkat, AT_FDCWD, "data.txt", 0);
   return 0;
 }
