@@ -574,10 +574,12 @@ static int lock_record(int fd, int what, struct flock *lock) {
   asked.l_whence = lock->l_whence;
   asked.l_start = lock->l_start;
   asked.l_len = lock->l_len;
-  asked.l_pid = lock->l_pid;
+  bool gets = what == F_GETLK || what == F_OFD_GETLK, open = gets ? what == F_OFD_GETLK : how == F_OFD_SETLK;
+  if (open) asked.l_pid = lock->l_pid; /* else nobody reads it */
   for (;;) {
     int r = (int)ask(&(question){.what = ASK_LOCKED, .at = opened_at(fd)->real, .a = how, .bytes = &asked,
-                                 .length = sizeof asked, .room = sizeof asked}, lock, NULL);
+                                 .length = sizeof asked, .room = sizeof asked},
+                     gets ? lock : &asked, NULL);
     if (!r || !waits || (errno != EAGAIN && errno != EACCES)) return r;
     if (!wait_a_little()) return -1;
   }

@@ -2,6 +2,7 @@
 #define _GNU_SOURCE
 #include "said.h"
 
+#include <netdb.h>
 #include <pthread.h>
 #include <sched.h>
 #include <stdbool.h>
@@ -120,6 +121,8 @@ int main(void) {
   printf("%s\n", host.release);
   SAY(gethostname(name, sizeof name));
   printf("%s\n", name);
+  struct addrinfo *found;
+  TELL(getaddrinfo("localhost", "http", NULL, &found));
   printf("%p\n", malloc(100));
   return !slept;
 }

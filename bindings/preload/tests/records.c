@@ -6,14 +6,19 @@
 #include <pthread.h>
 #include <signal.h>
 #include <sys/file.h>
+#include <time.h>
 #include <unistd.h>
 
 static int one, other;
-static volatile int handled;
+static volatile int handled, by_process;
 static void counts(int number) { handled += number; }
+/* What nobody reads of it is other bytes each time. */
 static struct flock part(int type, long from, long length) {
   struct flock it;
+  struct timespec now;
+  clock_gettime(CLOCK_MONOTONIC, &now);
   memset(&it, 0, sizeof it);
+  it.l_pid = by_process ? (pid_t)now.tv_nsec : 0;
   it.l_type = (short)type;
   it.l_start = from;
   it.l_len = length;
@@ -45,9 +50,11 @@ int main(void) {
   SAY(record(other, F_OFD_SETLK, F_RDLCK, 10, 5));
   SAY(fcntl(other, F_OFD_GETLK, &it));
   SAY(it.l_type == F_WRLCK && it.l_start == 0 && it.l_len == 10 && it.l_pid == -1);
+  by_process = 1;
   SAY(record(one, F_SETLK, F_RDLCK, 20, 5));
   SAY(record(other, F_SETLK, F_WRLCK, 20, 5));
   SAY(record(one, F_SETLK, 99, 20, 5));
+  by_process = 0;
   ualarm(20000, 0);
   SAY(record(other, F_OFD_SETLKW, F_WRLCK, 0, 1));
   SAY(handled == SIGALRM);
