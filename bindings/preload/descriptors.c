@@ -510,17 +510,49 @@ EXPORT ssize_t sendfile(int to, int from, off_t *at, size_t count) {
   return (ssize_t)done;
 }
 EXPORT ssize_t sendfile64(int to, int from, off_t *at, size_t count) { return sendfile(to, from, at, count); }
+/* .. each at its own place, or at the descriptor's: how much, or -1. */
+static ssize_t copies(int from, off64_t *a, int to, off64_t *b, size_t count) {
+  char bytes[16384];
+  size_t done = 0;
+  while (done < count) {
+    size_t piece = count - done < sizeof bytes ? count - done : sizeof bytes;
+    ssize_t got = a ? pread(from, bytes, piece, *a) : read(from, bytes, piece);
+    ssize_t n = got <= 0 ? got : b ? pwrite(to, bytes, (size_t)got, *b) : write(to, bytes, (size_t)got);
+    if (n < 0) return done ? (ssize_t)done : -1;
+    if (a) *a += n;
+    if (b) *b += n;
+    done += (size_t)n;
+    if (n == 0 || (size_t)n < piece) break;
+  }
+  return (ssize_t)done;
+}
+static bool is_file(const opened_file *f) { return (f->kind == HOST && !f->waits && !f->directory) || f->kind == MEMORY; }
 EXPORT ssize_t copy_file_range(int from, off64_t *a, int to, off64_t *b, size_t count, unsigned flags) {
   NEXT(copy_file_range);
   OFF(next(from, a, to, b, count, flags));
   if (!is_ours(from) && !is_ours(to)) return next(from, a, to, b, count, flags);
-  return errno = ENOSYS, -1; /* programs go on by read and write */
+  const opened_file *f = opened_at(from), *g = opened_at(to);
+  if (f->kind == NONE || g->kind == NONE) return errno = EBADF, -1;
+  if (f->directory || g->directory) return errno = EISDIR, -1;
+  if (flags || !is_file(f) || !is_file(g) || f == g) return errno = EINVAL, -1;
+  return copies(from, a, to, b, count);
 }
+/* What has no room would be lost: so a target that does not wait is refused, unless it is a pipe with room. */
 EXPORT ssize_t splice(int from, off64_t *a, int to, off64_t *b, size_t count, unsigned flags) {
   NEXT(splice);
   OFF(next(from, a, to, b, count, flags));
   if (!is_ours(from) && !is_ours(to)) return next(from, a, to, b, count, flags);
-  return errno = EINVAL, -1;
+  const opened_file *f = opened_at(from), *g = opened_at(to);
+  bool reads = f->kind == PIPE && !f->out, writes = g->kind == PIPE && !g->in;
+  if (f->kind == NONE || g->kind == NONE) return errno = EBADF, -1;
+  if ((reads && a) || (writes && b)) return errno = ESPIPE, -1;
+  if ((!reads && !writes) || f == g) return errno = EINVAL, -1;
+  if (g->nonblock || ((flags & SPLICE_F_NONBLOCK) && !is_file(g))) {
+    uncovered("splice", "splice to what does not wait is not covered: refused, in a rerun too");
+    return errno = EINVAL, -1;
+  }
+  if ((flags & SPLICE_F_NONBLOCK) && reads && f->in->filled <= 0) return errno = EAGAIN, -1;
+  return copies(from, a, to, b, count < 16384 ? count : 16384);
 }
 
 /* Numbers. */
@@ -541,7 +573,8 @@ EXPORT int dup2(int fd, int to) {
     return is_ours(fd) || is_ours(to) || is_behind(to) ? (errno = EBADF, -1) : next(fd, to);
   if (fd == ORACLE || to == ORACLE || opened_at(fd)->kind == NONE) return errno = EBADF, -1;
   enum kind kind = opened_at(to)->kind;
-  if (fd != to && (kind == HOST || kind == STREAM || kind == LISTENER || kind == NET)) (void)close(to); /* the machine keeps doors */
+  bool door = kind == HOST || kind == STREAM || kind == LISTENER || kind == NET;
+  if (fd != to && door) (void)close(to); /* the machine keeps doors */
   int r = (int)call_on(fd, DETIO_DUP2, to);
   return r < 0 || fd == to ? r : refers_too(fd, r);
 }

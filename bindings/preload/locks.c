@@ -439,7 +439,8 @@ static bool is_of_process(long n) {
   static const short all[] = {SYS_membarrier, SYS_rseq, SYS_set_robust_list, SYS_get_robust_list, SYS_prctl,
                               SYS_arch_prctl, SYS_mprotect, SYS_munmap, SYS_madvise, SYS_mlock, SYS_munlock, SYS_brk,
                               SYS_mbind, SYS_set_mempolicy, SYS_get_mempolicy, SYS_rt_sigprocmask, SYS_rt_sigreturn,
-                              SYS_sigaltstack, SYS_sched_yield, SYS_exit, SYS_exit_group};
+                              SYS_sigaltstack, SYS_sched_yield, SYS_exit, SYS_exit_group,
+                              SYS_sched_getattr, SYS_sched_setattr};
   for (size_t i = 0; i < sizeof all / sizeof *all; i++)
     if (all[i] == n) return true;
   return false;
@@ -485,6 +486,8 @@ EXPORT long syscall(long n, ...) {
       uncovered(kind, "%s is not covered: refused, in a rerun too", kind);
       return errno = ENOSYS, -1;
     }
+    bool of_thread = n == SYS_sched_getattr || n == SYS_sched_setattr;
+    if (of_thread && a == slots[me].tid) a = 0; /* this thread, whose number is the recording's */
     if (!is_of_process(n))
       uncovered(kind, "%s goes past the run: it is not recorded, and a rerun makes it again", kind);
   }

@@ -4,6 +4,7 @@ import pathlib
 import re
 import shutil
 import signal
+import socket
 import subprocess
 import tempfile
 import threading
@@ -114,6 +115,10 @@ CASES = (
     Case("lbzip2", ("lbzip2", "-c", DATA), (), ("lbzip2",)),
     Case("ffmpeg", ("ffmpeg", "-v", "error", "-threads", "3", "-f", "rawvideo", "-s", "64x64", "-pix_fmt", "gray", "-i",
                     DATA, "-frames:v", "20", "-c:v", "mpeg4", "-f", "framemd5", "-"), (), ("ffmpeg",), native=False),
+    Case("sqlite3", ("sqlite3", "new.db", "create table t(a); insert into t values(1),(2); select sum(a) from t;"), (),
+         ("sqlite3",)),
+    Case("git", ("git", "diff", "--no-index", "--stat", "input.txt", DATA), (), ("git",), status=1),
+    Case("GLib", ("@pool",), (), ("pkg-config", "/usr/include/glib-2.0/glib.h"), native=False, reruns=20),
     Case("Perl", ("/usr/bin/perl", "{tests}/threads.pl"), (), ("/usr/bin/perl",), native=False),
     Case("Python", ("/usr/bin/python3", "-S", "{tests}/threads.py"), (), ("/usr/bin/python3",), native=False),
     Case("asyncio", ("/usr/bin/python3", "-S", "{tests}/asyncs.py"), (), ("/usr/bin/python3",)),
@@ -195,6 +200,10 @@ def compile_tests(to: pathlib.Path) -> None:
         if shutil.which("c++"):
             subprocess.run(["c++", "-O1", "-o", str(to / name), str(TESTS / f"{name}.cc"), "-lpthread", more],
                            stderr=subprocess.DEVNULL, check=False)
+    if shutil.which("pkg-config") and os.path.exists("/usr/include/glib-2.0/glib.h"):
+        flags = subprocess.run(["pkg-config", "--cflags", "--libs", "glib-2.0"], capture_output=True, text=True).stdout
+        subprocess.run(["cc", "-O1", "-x", "c", "-o", str(to / "pool"), str(TESTS / "glib/pool.c"), "-x", "none",
+                        *flags.split()], stderr=subprocess.DEVNULL, check=False)
     if shutil.which("rustc"):
         subprocess.run(["rustc", "-O", "-o", str(to / "threads.rs"), str(TESTS / "threads.rs")], stderr=subprocess.DEVNULL,
                        check=False)
@@ -667,6 +676,27 @@ def faults(trial: Trial) -> None:
         trial.check((again.status, again.out) == (0, run.out), f"faults: rerun {number}: {again.status} {again.ours()}")
 
 
+def each_fault(trial: Trial) -> None:
+    """Whichever outcome of a program fails: it ends, by itself or by a deadlock that is said, and so does its rerun. Where
+    it ends well it printed what it prints without a fault."""
+    folder = trial.room / "each-fault"
+    for words in ("sort", "--parallel=2", "data.txt"), ("xz", "-T", "2", "-0", "-c", "data.txt"), ("md5sum", "data.txt"):
+        if not shutil.which(words[0]):
+            trial.leaves_out(words[0], 3)
+            continue
+        make_inputs(folder)
+        clean = trial.run("../fault.log", *words, folder=folder)
+        outcomes = (trial.room / "fault.log").read_bytes().count(b"R\0")
+        bad = []
+        for number in range(1, min(outcomes, 40)):
+            run = trial.run("../fault.log", *words, folder=folder, options=("--fault", str(number)))
+            again = trial.rerun("../fault.log", folder=folder)
+            ends = 0 <= run.status < 128 and run.status not in (DIVERGED, OURS, DIFFERS, LOG_ENDS)
+            if not ends or again.alone() != run.alone() or (run.status == 0 and run.out != clean.out):
+                bad.append(f"{number}: {run.status}, {again.status}: {again.ours()}")
+        trial.check(not bad, f"each fault: {words[0]}: {'; '.join(bad)[:400]}")
+
+
 def seeds(trial: Trial) -> None:
     """Seeds have other schedules, and each has one."""
     folder = trial.room / "seeds"
@@ -860,7 +890,6 @@ def sanitizers(trial: Trial) -> None:
 
 def ask_server(port: int, clients: int) -> None:
     """Clients that ask a server of ours, beside one another."""
-    import socket
 
     def one(number: int) -> None:
         with socket.create_connection(("127.0.0.1", port), timeout=30) as stream, stream.makefile("rwb") as lines:
@@ -940,6 +969,60 @@ def web_server(trial: Trial) -> None:
         trial.check(again.status == LOG_ENDS and again.alone()[1:] == said.alone()[1:], f"web: rerun {number}: {again.status}")
 
 
+def free_port() -> int:
+    """A port that nobody has."""
+    with socket.socket() as it:
+        it.bind(("127.0.0.1", 0))
+        return int(it.getsockname()[1])
+
+
+def exchanged(port: int, said: bytes, wanted: int) -> bytes:
+    """What a server answers, once it listens, so many bytes at most."""
+    for _ in range(200):
+        try:
+            with socket.create_connection(("127.0.0.1", port), timeout=20) as stream:
+                stream.sendall(said)
+                return stream.makefile("rb").read(wanted)
+        except ConnectionRefusedError:
+            time.sleep(0.05)
+    return b""
+
+
+# Servers of Debian: their words, what a client says, and what it is answered.
+SERVICES = {
+    "memcached": (("memcached", "-u", "nobody", "-U", "0", "-l", "127.0.0.1", "-t", "2", "-p"),
+                  b"set a 0 0 5\r\nhello\r\nget a\r\n", b"STORED\r\nVALUE a 0 5\r\nhello\r\nEND\r\n"),
+    "mosquitto": (("mosquitto", "-p"), b"\x10\x0c\0\x04MQTT\x04\x02\0<\0\0", b"\x20\x02\0\0")}
+
+
+def services(trial: Trial) -> None:
+    """Servers that end by the handler of a signal are rerun to their end, with nobody at their port."""
+    folder = trial.room / "services"
+    make_inputs(folder)
+    for name, (words, said, answer) in SERVICES.items():
+        path = shutil.which(name) or shutil.which(f"/usr/sbin/{name}")
+        if not path:
+            trial.leaves_out(name, 5)
+            continue
+        port = free_port()
+        process = subprocess.Popen(
+            [str(trial.library / "detio-launch"), "run", "--log", "service.log", "--force", "--", path, *words[1:],
+             str(port)], cwd=folder, stdout=subprocess.PIPE, stderr=subprocess.PIPE, stdin=subprocess.DEVNULL,
+            env=trial.environment())
+        answers = [exchanged(port, said, len(answer)) for _ in range(3)]
+        process.send_signal(signal.SIGTERM)
+        try:
+            out, err = process.communicate(timeout=trial.seconds)
+        except subprocess.TimeoutExpired:
+            process.kill()
+            out, err = process.communicate()
+        run = Ran(process.returncode, out, err)
+        trial.check(answers == [answer] * 3 and run.status == 0, f"services: {name}: {run.status} {answers} {run.ours()}")
+        for number in range(3):
+            again = trial.rerun("service.log", folder=folder)
+            trial.check(again.alone() == run.alone(), f"services: {name}: rerun {number}: {again.status} {again.ours()}")
+
+
 def fetch(port: int, name: str) -> None:
     """Reads a page."""
     try:
@@ -986,7 +1069,7 @@ def compare_table(trial: Trial) -> None:
 OTHERS: dict[str, Callable[[Trial], None]] = {
     "table": compare_table, "closed": closed_program, "killed": killed, "cut": cut, "differing": differing, "statuses":
     statuses, "stuck": stuck, "diverges": diverges, "stops": stops, "computes": computing, "quiet": quiet, "net":
-    net, "passed": passed, "faults": faults, "own-identity": other_user, "strangers": strangers,
+    net, "passed": passed, "faults": faults, "each-fault": each_fault, "services": services, "own-identity": other_user, "strangers": strangers,
     "from-outside": from_outside, "seeds": seeds,
     "children": children,
     "units": units, "sanitizers": sanitizers, "addresses": addresses, "few": few_addresses, "growing": growing,

@@ -56,9 +56,6 @@ int main(void) {
   REFUSED(shm_unlink("/detio-none"));
   REFUSED(mount("none", "/none", "tmpfs", 0, NULL));
   REFUSED(pidfd_open(getpid(), 0));
-  int from = open("data.txt", O_RDONLY), to = open("/dev/null", O_WRONLY);
-  REFUSED(copy_file_range(from, NULL, to, NULL, 10, 0));
-  SAY(splice(from, NULL, to, NULL, 10, 0));
   /* numbers of the host are above all of ours */
   long number = syscall(SYS_dup, 1);
   SAY(number >= 512);
