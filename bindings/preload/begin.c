@@ -85,6 +85,7 @@ __attribute__((constructor(101))) static void begin(void) {
   unsetenv("LD_PRELOAD");
   unsetenv("DETIO_PAD");
   begin_processes();
+  begin_counts();
   begin_signals();
   if (run.passes)
     say("paths below %s%s go to the host and are not recorded", run.passed[0], run.passes > 1 ? " and others" : "");

@@ -18,6 +18,7 @@ static const char *const questions[] = {
     [ASK_KIND] = "the kind of a file",
     [ASK_CLOSED] = "the end of a thread",
     [ASK_SIGNAL] = "a signal",
+    [ASK_COUNT] = "what the processor counts",
     [ASK_LEFT] = "what is left of a sleep",
     [LAST_SURE] = "?",
     [ASK_STAT] = "stat",

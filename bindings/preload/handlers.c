@@ -31,7 +31,7 @@ static bool may_come_in_rerun(int number) {
 }
 static int set_at_host(int number, const struct sigaction *to) {
   struct sigaction now = *to;
-  if (is_handled(to)) {
+  if (is_handled(to) || (number == SIGSEGV && counts_trap())) {
     now.sa_sigaction = hosts;
     now.sa_flags = SA_SIGINFO | SA_RESTART | (to->sa_flags & (SA_ONSTACK | SA_NOCLDSTOP | SA_NOCLDWAIT));
     if (run.replays && !may_come_in_rerun(number)) now.sa_handler = SIG_DFL;
@@ -44,11 +44,18 @@ void set_default(int number) {
   acts[number].sa_handler = SIG_DFL;
   (void)set_at_host(number, &none);
 }
+void set_host_default(int number) {
+  struct sigaction none;
+  memset(&none, 0, sizeof none);
+  none.sa_handler = SIG_DFL;
+  (void)libc_sigaction()(number, &none, NULL);
+}
 /* What the process began with. */
 void begin_handlers(void (*handle)(int, siginfo_t *, void *)) {
   hosts = handle;
   for (int number = 1; number < SIGNALS; number++)
     known[number] = !libc_sigaction()(number, NULL, &acts[number]);
+  if (counts_trap()) (void)set_at_host(SIGSEGV, &acts[SIGSEGV]);
 }
 
 EXPORT int sigaction(int number, const struct sigaction *to, struct sigaction *old) {

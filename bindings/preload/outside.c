@@ -159,6 +159,7 @@ static long ask_host(const question *q, uint8_t *out) {
   case ASK_WAITED: memcpy(out, q->bytes, q->length); return q->a;
   case ASK_CLOSED: return 0;
   case ASK_SIGNAL: return take_arrived((siginfo_t *)out);
+  case ASK_COUNT: return count_at_host(out);
   case ASK_LEFT: memcpy(out, q->bytes, q->length); return 0;
   case ASK_ERROR: return slots[me].error;
   case ASK_KIND: return kind_of(q->at);

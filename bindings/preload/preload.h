@@ -47,7 +47,7 @@ enum { DIVERGED = 120, DEADLOCK = 121, STRICT = 122, LOG_ENDS = 123, DIFFERS = 1
 /* What is asked of the outside. Those after LAST_SURE can fail, so --fault may take them. */
 enum ask {
   ASK_ABOUT = 1, ASK_WAITED, ASK_CLOCK, ASK_RESOLUTION, ASK_RANDOM, ASK_NUMBER, ASK_NUMBERS, ASK_PATHCONF, ASK_ERROR,
-  ASK_KIND, ASK_CLOSED, ASK_SIGNAL, ASK_LEFT, LAST_SURE,
+  ASK_KIND, ASK_CLOSED, ASK_SIGNAL, ASK_LEFT, ASK_COUNT, LAST_SURE,
   ASK_STAT, ASK_FSTAT, ASK_STATFS, ASK_FSTATFS, ASK_PREAD, ASK_PWRITE, ASK_FTRUNCATE, ASK_TRUNCATE, ASK_FALLOCATE,
   ASK_FSYNC, ASK_FLOCK, ASK_LOCKED, ASK_UNLINK, ASK_RENAME, ASK_LINK, ASK_SYMLINK, ASK_MKDIR, ASK_MKNOD, ASK_ACCESS,
   ASK_CHMOD, ASK_FCHMOD, ASK_CHOWN, ASK_FCHOWN, ASK_UTIMES, ASK_READLINK, ASK_REALPATH, ASK_GETCWD, ASK_CHDIR,
@@ -368,7 +368,15 @@ extern bool timer_is_set;           /* .. and so a signal will come */
 /* alarms.c */
 long call_timer(long call, int64_t given, const void *in, uint8_t *out);
 
+/* counts.c */
+void begin_counts(void);
+bool counts_trap(void);             /* rdtsc comes as a signal */
+void free_counts(bool free);
+long count_at_host(uint8_t *out);
+bool answer_count(const siginfo_t *, void *context); /* whether this signal was an rdtsc, which has its answer now */
+
 /* handlers.c */
+void set_host_default(int number);  /* what the host does by itself */
 struct sigaction handling(int number);
 bool is_quiet(int number);          /* it has no handler and no effect */
 void set_default(int number);

@@ -30,6 +30,7 @@ EXPORT _Noreturn void quick_exit(int status) {
 
 /* Other processes, which one log is not about. In a recording a child goes on without us; a rerun starts none. */
 static void in_child(void) {
+  free_counts(true);
   on = false;
   me = -1;
 }
@@ -51,7 +52,10 @@ EXPORT pid_t _Fork(void) { return fork(); }
 static long run_command(const void *command) {
   static int (*next)(const char *);
   if (!next) next = (int (*)(const char *))dlsym(RTLD_NEXT, "system");
-  return next(command);
+  free_counts(true);
+  long status = next(command);
+  free_counts(false);
+  return status;
 }
 EXPORT int system(const char *command) {
   NEXT(system);
@@ -74,7 +78,9 @@ EXPORT FILE *popen(const char *command, const char *how) {
   while (i < COMMANDS && commands[i].ours) i++;
   if (i == COMMANDS) return errno = EMFILE, NULL;
   inside++;
+  free_counts(true);
   FILE *real = run.replays ? NULL : next(command, how);
+  free_counts(false);
   inside--;
   int fd = takes_door(real ? fileno_unlocked(real) : -1);
   FILE *ours = fd < 0 ? NULL : new_stream(fd, *how == 'w' ? "w" : "r");
@@ -104,7 +110,11 @@ EXPORT int pclose(FILE *file) {
                   const posix_spawnattr_t *attr, char *const arguments[], char *const variables[]) {          \
     NEXT(name);                                                                                               \
     OFF(next(child, path, actions, attr, arguments, variables));                                              \
-    return starts_none(#name) ? ENOSYS : next(child, path, actions, attr, arguments, variables);              \
+    if (starts_none(#name)) return ENOSYS;                                                                    \
+    free_counts(true);                                                                                        \
+    int code = next(child, path, actions, attr, arguments, variables);                                        \
+    free_counts(false);                                                                                       \
+    return code;                                                                                              \
   }
 SPAWNS(posix_spawn)
 SPAWNS(posix_spawnp)
@@ -112,7 +122,11 @@ SPAWNS(posix_spawnp)
   EXPORT int name given {                                              \
     NEXT(name);                                                        \
     OFF(next passed);                                                  \
-    return starts_none(#name) ? (errno = ENOSYS, -1) : next passed;    \
+    if (starts_none(#name)) return errno = ENOSYS, -1;                 \
+    free_counts(true);                                                 \
+    int code = next passed;                                            \
+    free_counts(false);                                                \
+    return code;                                                       \
   }
 EXECUTES(execve, (const char *p, char *const a[], char *const e[]), (p, a, e))
 EXECUTES(execv, (const char *p, char *const a[]), (p, a))

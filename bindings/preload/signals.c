@@ -32,9 +32,12 @@ static void call_handler(const struct sigaction *act, int number, siginfo_t *abo
 static void handle(int number, siginfo_t *about, void *context) {
   int kept = errno;
   struct sigaction act = handling(number);
+  bool counts = answer_count(about, context);
+  errno = kept;
+  if (counts) return;
   if (!on || comes_by_itself(about)) {
-    errno = kept;
     if (act.sa_handler != SIG_DFL && act.sa_handler != SIG_IGN) call_handler(&act, number, about, context);
+    else set_host_default(number); /* the instruction has it come once more */
     return;
   }
   if (!run.replays) {
@@ -128,6 +131,7 @@ static void send(int number, const siginfo_t *about, int to) {
   bool stays = i < 0 || ((slots[i].blocked | slots[i].awaited) & bit);
   if (!stays && is_quiet(number)) return;
   if (number == SIGKILL || number == SIGSTOP || (!stays && does == SIG_DFL)) {
+    if (number != SIGKILL && number != SIGSTOP) set_host_default(number);
     KERNEL(SYS_kill, KERNEL(SYS_getpid, 0), number);
     return;
   }
@@ -142,13 +146,14 @@ static void send(int number, const siginfo_t *about, int to) {
 /* Of a thread: its host does what a signal does without a handler. */
 static void do_default(int number) {
   uint64_t bit = BIT(number);
-  set_default(number);
+  set_host_default(number);
   KERNEL(SYS_rt_sigprocmask, SIG_UNBLOCK, &bit, NULL, 8);
   KERNEL(SYS_tgkill, KERNEL(SYS_getpid, 0), KERNEL(SYS_gettid, 0), number);
 }
 void set_blocked(uint64_t set) {
   set &= ~(BIT(SIGKILL) | BIT(SIGSTOP) | 3ull << 31); /* the last two are the C library's own */
-  KERNEL(SYS_rt_sigprocmask, SIG_SETMASK, &set, NULL, 8);
+  uint64_t at_host = counts_trap() ? set & ~BIT(SIGSEGV) : set;
+  KERNEL(SYS_rt_sigprocmask, SIG_SETMASK, &at_host, NULL, 8);
   turn();
   slots[me].blocked = set;
   set_due(me);

@@ -83,6 +83,8 @@ CASES = (
     Case("moments", ("@moments",), native=False),
     Case("moments that are sent", ("@moments", "send"), native=False),
     Case("moments in parallel", ("@moments", "send"), ("--parallel", "--overlap"), native=False),
+    Case("counts", ("@counts",), native=False, reruns=10),
+    Case("a fault", ("@counts", "f"), native=False, status=128 + signal.SIGSEGV),
     Case("clocks", ("@clocks",), native=False),
     Case("checked", ("@checked",), input="input.txt"),
     Case("lines", ("@lines",), input="input.txt", stdin=True),
