@@ -1,4 +1,5 @@
-/* Timers that have a signal come. A recording sets them at the host, and its signals are outcomes; a rerun sets none. */
+/* Timers that have a signal come. A recording sets them at the host, and their signals are outcomes; a rerun sets none.
+ */
 #define _GNU_SOURCE
 #include "preload.h"
 

@@ -526,7 +526,9 @@ static ssize_t copies(int from, off64_t *a, int to, off64_t *b, size_t count) {
   }
   return (ssize_t)done;
 }
-static bool is_file(const opened_file *f) { return (f->kind == HOST && !f->waits && !f->directory) || f->kind == MEMORY; }
+static bool is_file(const opened_file *f) {
+  return f->kind == MEMORY || (f->kind == HOST && !f->waits && !f->directory);
+}
 EXPORT ssize_t copy_file_range(int from, off64_t *a, int to, off64_t *b, size_t count, unsigned flags) {
   NEXT(copy_file_range);
   OFF(next(from, a, to, b, count, flags));

@@ -61,8 +61,8 @@ long call_net(const question *q, uint8_t *out) {
   }
 }
 size_t bytes_of_net(const question *q, long result) {
-  size_t most = q->room, bytes = q->a == RECEIVES ? sizeof(received) + (size_t)result : q->a == GETS ? (size_t)result : 0;
-  return bytes < most ? bytes : most;
+  size_t bytes = q->a == RECEIVES ? sizeof(received) + (size_t)result : q->a == GETS ? (size_t)result : 0;
+  return bytes < q->room ? bytes : q->room;
 }
 
 static int64_t net(enum act act, int real, int64_t b, const void *bytes, size_t length) {
@@ -272,7 +272,8 @@ long call_hosts(const question *q, uint8_t *out) {
 static struct addrinfo *taken_from(const uint8_t *at, const told *t) {
   struct addrinfo *it = calloc(1, sizeof *it + t->length);
   if (!it) return NULL;
-  *it = (struct addrinfo){t->flags, t->family, t->type, t->protocol, t->length, (struct sockaddr *)(it + 1), NULL, NULL};
+  struct sockaddr *address = (struct sockaddr *)(it + 1);
+  *it = (struct addrinfo){t->flags, t->family, t->type, t->protocol, t->length, address, NULL, NULL};
   memcpy(it + 1, at, t->length);
   if (t->name) it->ai_canonname = strdup((const char *)at + t->length);
   return it;

@@ -67,8 +67,8 @@ typedef struct {
 } question;
 
 enum state { FREE, LIVE, DONE };
-/* Whether a signal ends a wait: never; one of another thread; or one from outside too, though nothing else is there that
- * could end it. */
+/* Whether a signal ends a wait: never; one of another thread; or one from outside too, though nothing else is there
+ * that could end it. */
 enum light { HEAVY, LIGHT, LIGHTER };
 
 typedef struct {

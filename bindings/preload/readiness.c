@@ -81,7 +81,8 @@ static short ready_end(const opened_file *f, short events) {
 /* Whether the host says what this is ready for. */
 static bool is_door(int fd) {
   const opened_file *f = opened_at(fd);
-  return f->kind == STREAM || f->kind == LISTENER || f->kind == NET || (f->kind == HOST && f->waits) || f->kind == STANDARD;
+  if (f->kind == HOST) return f->waits;
+  return f->kind == STREAM || f->kind == LISTENER || f->kind == NET || f->kind == STANDARD;
 }
 /* At the turn: what of these is ready in memory, how many they are; and of the others the doors. */
 static int look_at(struct pollfd *fds, struct pollfd *doors, nfds_t count, bool *any_door) {

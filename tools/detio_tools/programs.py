@@ -679,10 +679,11 @@ def faults(trial: Trial) -> None:
 
 
 def each_fault(trial: Trial) -> None:
-    """Whichever outcome of a program fails: it ends, by itself or by a deadlock that is said, and so does its rerun. Where
-    it ends well it printed what it prints without a fault."""
+    """Whichever outcome of a program fails: it ends, by itself or by a deadlock that is said, and so does its rerun.
+    Where it ends well it printed what it prints without a fault."""
     folder = trial.room / "each-fault"
-    for words in ("sort", "--parallel=2", "data.txt"), ("xz", "-T", "2", "-0", "-c", "data.txt"), ("md5sum", "data.txt"):
+    for words in (("sort", "--parallel=2", "data.txt"), ("xz", "-T", "2", "-0", "-c", "data.txt"),
+                  ("md5sum", "data.txt")):
         if not shutil.which(words[0]):
             trial.leaves_out(words[0], 3)
             continue
@@ -829,7 +830,8 @@ def from_outside(trial: Trial) -> None:
     trial.check((process.returncode, printed.count(b"14 at ")) == (0, 20), f"from outside: status {process.returncode}")
     for number in range(5):
         again = trial.rerun("outside.log", folder=folder)
-        trial.check((again.status, again.out) == (0, printed), f"from outside: rerun {number}: {again.status} {again.ours()}")
+        trial.check((again.status, again.out) == (0, printed),
+                    f"from outside: rerun {number}: {again.status} {again.ours()}")
 
 
 def compiles(words: list[str]) -> bool:
@@ -1019,10 +1021,12 @@ def services(trial: Trial) -> None:
             process.kill()
             out, err = process.communicate()
         run = Ran(process.returncode, out, err)
-        trial.check(answers == [answer] * 3 and run.status == 0, f"services: {name}: {run.status} {answers} {run.ours()}")
+        trial.check(answers == [answer] * 3 and run.status == 0,
+                    f"services: {name}: {run.status} {answers} {run.ours()}")
         for number in range(3):
             again = trial.rerun("service.log", folder=folder)
-            trial.check(again.alone() == run.alone(), f"services: {name}: rerun {number}: {again.status} {again.ours()}")
+            trial.check(again.alone() == run.alone(),
+                        f"services: {name}: rerun {number}: {again.status} {again.ours()}")
 
 
 def fetch(port: int, name: str) -> None:
@@ -1071,7 +1075,8 @@ def compare_table(trial: Trial) -> None:
 OTHERS: dict[str, Callable[[Trial], None]] = {
     "table": compare_table, "closed": closed_program, "killed": killed, "cut": cut, "differing": differing, "statuses":
     statuses, "stuck": stuck, "diverges": diverges, "stops": stops, "computes": computing, "quiet": quiet, "net":
-    net, "passed": passed, "faults": faults, "each-fault": each_fault, "services": services, "own-identity": other_user, "strangers": strangers,
+    net, "passed": passed, "faults": faults, "each-fault": each_fault, "services": services,
+    "own-identity": other_user, "strangers": strangers,
     "from-outside": from_outside, "seeds": seeds,
     "children": children,
     "units": units, "sanitizers": sanitizers, "addresses": addresses, "few": few_addresses, "growing": growing,

@@ -1,4 +1,5 @@
-/* What the processor counts: by both instructions, in two threads, with all signals blocked, and a fault beside them. */
+/* What the processor counts: by both instructions, in two threads, with all signals blocked; and a fault beside that.
+ */
 #define _GNU_SOURCE
 #include <pthread.h>
 #include <setjmp.h>

@@ -1,5 +1,6 @@
-/* moments [send|outside|default]: a handler that comes at any moment of a loop of calls, and what it does there. Another thread
- * sends the signals, or another process; else a timer has them come. Or a signal without a handler ends it. */
+/* moments [send|outside|default]: a handler that comes at any moment of a loop of calls, and what it does there.
+ * Another thread sends the signals, or another process; else a timer has them come. Or one without a handler ends it.
+ */
 #define _GNU_SOURCE
 #include <pthread.h>
 #include <signal.h>
