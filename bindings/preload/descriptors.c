@@ -221,6 +221,7 @@ bool wait_for_door(int fd, short events) {
 /* A read at the descriptor's offset, or where `at` is none of it. */
 static ssize_t reads(int fd, void *bytes, size_t count, off_t at) {
   const opened_file *f = opened_at(fd);
+  if (f->kind == NONE) return errno = EBADF, -1;
   if (f->kind == EVENT && at < 0) return read_event(f, bytes, count);
   if (f->kind == TIMER && at < 0) return read_timer(f, bytes, count);
   if (f->kind >= EVENT || (f->kind == NET && at >= 0)) return errno = at < 0 ? EINVAL : ESPIPE, -1;
@@ -296,6 +297,7 @@ static ssize_t write_standard(int to, const char *bytes, size_t count) {
 }
 static ssize_t writes(int fd, const char *bytes, size_t count, off_t at) {
   const opened_file *f = opened_at(fd);
+  if (f->kind == NONE) return errno = EBADF, -1;
   if (f->kind == STANDARD && at >= 0) return errno = ESPIPE, -1; /* as of a pipe: see lseek */
   if (f->kind == STANDARD) return write_standard(f->real, bytes, count);
   if (f->kind == EVENT && at < 0) return write_event(f, bytes, count);
@@ -408,6 +410,8 @@ EXPORT off_t lseek(int fd, off_t offset, int whence) {
   OFF(next(fd, offset, whence));
   if (!is_ours(fd)) return next(fd, offset, whence);
   enum kind kind = opened_at(fd)->kind;
+  if (kind == NONE) return errno = EBADF, -1;
+  if (kind >= EVENT) return 0;
   if (kind >= STREAM) return errno = ESPIPE, -1;
   if (whence > SEEK_END) return errno = EINVAL, -1; /* SEEK_DATA, SEEK_HOLE */
   return plain_call(&(detio_call){.kind = DETIO_LSEEK, .descriptor = fd, .number = offset, .choice = (uint32_t)whence},

@@ -28,6 +28,37 @@ static void call_handler(const struct sigaction *act, int number, siginfo_t *abo
   if (act->sa_flags & SA_SIGINFO) act->sa_sigaction(number, about, context);
   else act->sa_handler(number);
 }
+/* A signal came while its thread was in the program's own code. Where it has made no call two seconds later, it may wait
+ * for the handler, which then runs as it would without us. */
+static struct { bool set; int timer; uint64_t entries; } later;
+static void look_later(int number) {
+  struct sigevent then;
+  static const struct itimerspec two_seconds = {{0, 0}, {2, 0}};
+  if (me < 0 || inside || later.set) return;
+  memset(&then, 0, sizeof then);
+  then.sigev_notify = SIGEV_THREAD_ID;
+  then.sigev_signo = number;
+  then.sigev_value.sival_ptr = &later;
+  then._sigev_un._tid = (pid_t)KERNEL(SYS_gettid, 0);
+  later.entries = slots[me].entries;
+  later.set = !KERNEL(SYS_timer_create, CLOCK_MONOTONIC, &then, &later.timer) &&
+              !KERNEL(SYS_timer_settime, later.timer, 0, &two_seconds, NULL);
+}
+static bool is_later(const siginfo_t *about) {
+  return about->si_code == SI_TIMER && about->si_value.sival_ptr == &later;
+}
+static void handle_late(int number, siginfo_t *about, void *context) {
+  struct sigaction act = handling(number);
+  const void *at = (const void *)((const ucontext_t *)context)->uc_mcontext.gregs[REG_RIP];
+  KERNEL(SYS_timer_delete, later.timer);
+  later.set = false;
+  if (me < 0 || inside || slots[me].entries != later.entries || is_in(&own_code, at)) return;
+  if (!(__atomic_fetch_and(&arrived, ~BIT(number), __ATOMIC_SEQ_CST) & BIT(number))) return;
+  uncovered_at(at, "handler",
+               "the handler of signal %d runs at a moment that is not recorded: a rerun does not repeat it", number);
+  *about = arrivals[number];
+  if (act.sa_handler != SIG_DFL && act.sa_handler != SIG_IGN) call_handler(&act, number, about, context);
+}
 /* The host's handler of all signals that the program handles. */
 static void handle(int number, siginfo_t *about, void *context) {
   int kept = errno;
@@ -40,7 +71,9 @@ static void handle(int number, siginfo_t *about, void *context) {
     else set_host_default(number); /* the instruction has it come once more */
     return;
   }
-  if (!run.replays) {
+  if (is_later(about)) {
+    handle_late(number, about, context);
+  } else if (!run.replays) {
     uint64_t one = 1;
     arrivals[number] = *about;
     __atomic_or_fetch(&arrived, BIT(number), __ATOMIC_SEQ_CST);
@@ -51,6 +84,7 @@ static void handle(int number, siginfo_t *about, void *context) {
       __atomic_store_n(&slots[me].poked, 1, __ATOMIC_SEQ_CST);
       __atomic_store_n(&slots[me].word, 1, __ATOMIC_SEQ_CST);
     }
+    look_later(number);
   }
   errno = kept;
 }

@@ -615,6 +615,8 @@ def computing(trial: Trial) -> None:
     run = trial.run("computes.log", program, folder=folder)
     lines = [it for it in run.ours().split("; ") if "has the turn" in it]
     trial.check(run.status == 0 and len(lines) == 1, f"computes: {run.status}: {run.ours()}")
+    trial.check(run.ours().count("the handler of signal 14 runs at a moment") == 1,
+                f"computes: its handler is not said: {run.ours()}")
     where = callers_in(Ran(0, b"", lines[0].encode()), program) if lines else []
     trial.check(where == ["computes"], f"computes: its last call was at {where}: {run.ours()}")
 
@@ -832,6 +834,32 @@ def from_outside(trial: Trial) -> None:
         again = trial.rerun("outside.log", folder=folder)
         trial.check((again.status, again.out) == (0, printed),
                     f"from outside: rerun {number}: {again.status} {again.ours()}")
+
+
+def by_chance(trial: Trial) -> None:
+    """Calls by chance do what they do without us, and again in a rerun: `tools/against-kernel` makes more of them."""
+    for seed in range(1, 21):
+        fault = against_kernel(trial, seed, 400)
+        trial.check(fault is None, f"by chance: seed {seed}: {fault}")
+
+
+def against_kernel(trial: Trial, seed: int, count: int) -> str | None:
+    """The first call by chance that differs, natively, recorded or rerun; or None."""
+    program, folder = str(trial.room / "programs/chance"), trial.room / f"chance-{seed}"
+    seen_by: list[list[str]] = []
+    for way in "alone", "run", "rerun":
+        shutil.rmtree(folder, ignore_errors=True)
+        folder.mkdir()
+        words = (program, str(seed), str(count))
+        ran = (trial.launch(*words, folder=folder) if way == "alone" else
+               trial.run("../chance.log", *words, folder=folder) if way == "run" else
+               trial.rerun("../chance.log", folder=folder))
+        seen_by.append([*ran.out.decode().splitlines(), f"status {ran.status}"])
+    shutil.rmtree(folder)
+    for number, lines in enumerate(zip(*seen_by, strict=False)):
+        if len(set(lines)) > 1:
+            return f"call {number}: {' / '.join(lines)}"
+    return None
 
 
 def compiles(words: list[str]) -> bool:
@@ -1077,7 +1105,7 @@ OTHERS: dict[str, Callable[[Trial], None]] = {
     statuses, "stuck": stuck, "diverges": diverges, "stops": stops, "computes": computing, "quiet": quiet, "net":
     net, "passed": passed, "faults": faults, "each-fault": each_fault, "services": services,
     "own-identity": other_user, "strangers": strangers,
-    "from-outside": from_outside, "seeds": seeds,
+    "from-outside": from_outside, "by-chance": by_chance, "seeds": seeds,
     "children": children,
     "units": units, "sanitizers": sanitizers, "addresses": addresses, "few": few_addresses, "growing": growing,
     "long": long_log, "in-turn": in_turn,
