@@ -66,6 +66,7 @@ int64_t plain_call(const detio_call *call, const void *text, size_t length, void
   return r.kind == DETIO_NUMBER ? r.first : r.kind == DETIO_COUNT || r.kind == DETIO_DATA ? (int64_t)r.count : 0;
 }
 static int64_t call_on(int fd, uint32_t kind, int64_t number) {
+  if (fd == ORACLE) return errno = EBADF, -1;
   return plain_call(&(detio_call){.kind = kind, .descriptor = fd, .number = number}, NULL, 0, NULL, 0);
 }
 

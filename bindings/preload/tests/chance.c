@@ -127,7 +127,7 @@ int main(int count, char **words) {
     unsigned what = by(20);
     int at = not_standard(), lowest = dup(2);
     if (lowest >= 0) close(lowest);
-    if (lowest < 0 || lowest > 16) what = 19, at = 3 + (int)by(28);
+    if (lowest < 0 || lowest > 11) what = 19, at = 3 + (int)by(28);
     if (what < 3) opens();
     else if (what < 5) pipes();
     else if (what < 11) moves();
