@@ -82,7 +82,7 @@ CASES = (
     Case("ended by a signal", ("@moments", "default"), status=128 + signal.SIGTERM),
     Case("moments", ("@moments",), native=False),
     Case("moments that are sent", ("@moments", "send"), native=False),
-    Case("moments in parallel", ("@moments", "send"), ("--parallel", "--overlap"), native=False),
+    Case("moments in parallel", ("@moments", "send"), ("--parallel", "--overlap"), native=False, reruns=20),
     Case("counts", ("@counts",), native=False, reruns=10),
     Case("a fault", ("@counts", "f"), native=False, status=128 + signal.SIGSEGV),
     Case("clocks", ("@clocks",), native=False),
@@ -775,7 +775,7 @@ STRANGERS = {
     "by_syscall": "system call 79 goes past the run", "by_fork": "fork: ", "by_vfork": "fork: ",
     "by_clone": "clone is not",
     "by_spawn": "posix_spawn: ", "by_system": "system: ", "by_popen": "popen: ",
-    "by_mapping": "a shared mapping", "by_ring": "system call 425 is not", "by_thread": "no number for one more thread",
+    "by_words": "execv: ", "by_mapping": "a shared mapping", "by_ring": "system call 425 is not", "by_thread": "no number for one more thread",
     "by_numbers": "no number for one more file", "by_instruction": "system call 79 goes around"}
 
 
@@ -794,7 +794,7 @@ def strangers(trial: Trial) -> None:
         if not quiet:
             where = callers_in(run, program)
             trial.check(where == [name], f"strangers: {name}: it was called by {where}: {run.ours()}")
-        if name not in ("by_fork", "by_vfork", "by_spawn"):
+        if name not in ("by_fork", "by_vfork", "by_spawn", "by_words"):
             trial.check(again.alone() == run.alone(), f"strangers: {name}: rerun {again.status} {again.ours()}")
         strict = trial.run("strict.log", program, str(way), folder=folder, options=("--strict", *some))
         if "no filter of system calls" in strict.ours():

@@ -56,6 +56,10 @@ WAY(by_popen) {
   FILE *f = popen("exit 0", "r");
   said("by_popen", f ? pclose(f) : -1);
 }
+WAY(by_words) {
+  execl("/bin/true", "true", NULL);
+  said("by_words", -1);
+}
 WAY(by_mapping) {
   int f = open("data.txt", O_RDWR);
   said("by_mapping", mmap(NULL, 4096, PROT_READ | PROT_WRITE, MAP_SHARED, f, 0) == MAP_FAILED);
@@ -80,7 +84,7 @@ WAY(by_instruction) {
 
 int main(int count, char **words) {
   static void (*const ways[])(void) = {by_syscall, by_fork,    by_vfork, by_clone,  by_spawn,   by_system,     by_popen,
-                                       by_mapping, by_ring,    by_thread, by_numbers, by_instruction};
+                                       by_words, by_mapping, by_ring,   by_thread, by_numbers, by_instruction};
   size_t way = count > 1 ? (size_t)atoi(words[1]) : 0;
   if (way >= sizeof ways / sizeof *ways) return 9;
   ways[way]();
