@@ -1,4 +1,5 @@
 /* Tests of detio_threads.h and detio_host.h, in a folder of their own: cc driver.c -I . -L ../out -ldetio -lpthread */
+#include "checks.h"
 #include "detio_host.h"
 #include "detio_threads.h"
 
@@ -15,14 +16,6 @@
 #include <sys/time.h>
 #include <time.h>
 #include <unistd.h>
-
-#define CHECK(what) \
-  do { \
-    if (!(what)) { \
-      fprintf(stderr, "%s:%d: not so: %s\n", __FILE__, __LINE__, #what); \
-      exit(1); \
-    } \
-  } while (0)
 
 static uint8_t data[32768];
 static const detio_settings one = {.threads = 1, .patience = 1000, .door_cost = 100, .version = 2, .room = 1 << 20};

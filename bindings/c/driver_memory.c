@@ -1,31 +1,11 @@
 /* A test of the driver in which one allocation after another is refused, as memory.c has it for detio.h: a run of calls
  * in memory and at the host comes to the same replies and the same log, whichever it is. Compiled as memory.c. */
 #include "detio_threads.h"
+#include "refusing.h"
 
 #include <stdio.h>
 #include <stdlib.h>
 #include <string.h>
-
-#define CHECK(what) \
-  do { \
-    if (!(what)) { \
-      fprintf(stderr, "%s:%d: not so where allocation %ld is refused: %s\n", __FILE__, __LINE__, place, #what); \
-      exit(1); \
-    } \
-  } while (0)
-
-/* How many allocations there were, and which is refused. */
-static long count, place;
-static bool counting;
-
-void *__real_malloc(size_t size);
-void *__real_realloc(void *old, size_t size);
-void *__wrap_malloc(size_t size);
-void *__wrap_realloc(void *old, size_t size);
-
-static bool refused(void) { return counting && ++count == place; }
-void *__wrap_malloc(size_t size) { return refused() ? NULL : __real_malloc(size); }
-void *__wrap_realloc(void *old, size_t size) { return refused() ? NULL : __real_realloc(old, size); }
 
 static uint8_t data[64];
 

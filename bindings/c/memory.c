@@ -1,32 +1,12 @@
-/* A test of detio.h in which one allocation after another is refused: the compiler is given -Wl,--wrap=malloc and
- * -Wl,--wrap=realloc, and the library as an archive. Whichever it is, one call says DETIO_NO_MEMORY and nothing else;
- * made again it is done, and the log, the replies and the replay are those of a run with ample memory. */
+/* A test of detio.h in which one allocation after another is refused. Whichever it is, one call says DETIO_NO_MEMORY
+ * and nothing else; made again it is done, and the log, the replies and the replay are those of a run with ample
+ * memory. */
 #include "detio.h"
+#include "refusing.h"
 
 #include <stdio.h>
 #include <stdlib.h>
 #include <string.h>
-
-#define CHECK(what) \
-  do { \
-    if (!(what)) { \
-      fprintf(stderr, "%s:%d: not so where allocation %ld is refused: %s\n", __FILE__, __LINE__, place, #what); \
-      exit(1); \
-    } \
-  } while (0)
-
-/* How many allocations of the library there were, and which is refused. */
-static long count, place;
-static bool counting;
-
-void *__real_malloc(size_t size);
-void *__real_realloc(void *old, size_t size);
-void *__wrap_malloc(size_t size);
-void *__wrap_realloc(void *old, size_t size);
-
-static bool refused(void) { return counting && ++count == place; }
-void *__wrap_malloc(size_t size) { return refused() ? NULL : __real_malloc(size); }
-void *__wrap_realloc(void *old, size_t size) { return refused() ? NULL : __real_realloc(old, size); }
 
 /* What the last call returned, and how many allocations there were before it. */
 static uint32_t code;

@@ -2,6 +2,7 @@
  *
  *     tests [TIMES]    each test, and runs of 2 and 16 threads so many times (default 20): at 1 the replays of 16
  *                      threads are left out, for where each step is dear */
+#include "checks.h"
 #include "detio_threads.h"
 
 #include <fcntl.h>
@@ -12,14 +13,6 @@
 #include <string.h>
 #include <sys/stat.h>
 #include <unistd.h>
-
-#define CHECK(what) \
-  do { \
-    if (!(what)) { \
-      fprintf(stderr, "%s:%d: not so: %s\n", __FILE__, __LINE__, #what); \
-      exit(1); \
-    } \
-  } while (0)
 
 static const uint8_t none[1];
 static uint8_t data[32768];

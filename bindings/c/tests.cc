@@ -1,4 +1,5 @@
 /* Tests of detio.hpp, in a folder of their own: c++ -std=c++11 tests.cc -I . -L ../out -ldetio -lpthread */
+#include "checks.h"
 #include "detio.hpp"
 
 #include <atomic>
@@ -8,14 +9,6 @@
 #include <sys/resource.h>
 #include <system_error>
 #include <unistd.h>
-
-#define CHECK(what) \
-  do { \
-    if (!(what)) { \
-      fprintf(stderr, "%s:%d: not so: %s\n", __FILE__, __LINE__, #what); \
-      exit(1); \
-    } \
-  } while (0)
 
 static void each_call(detio_cc::thread &io) {
   int64_t a = io.open("/a", DETIO_READ_WRITE, DETIO_CREATE | DETIO_EXCLUSIVE);
