@@ -81,7 +81,8 @@ int main(int words, char **word) {
   count = atol(word[2]);
   what = word[3];
   by_kernel = !strcmp(word[4], "kernel");
-  detio_settings settings = {.threads = threads, .patience = 1000, .door_cost = 100, .version = 2, .room = 1u << 30};
+  detio_settings settings = {.size = sizeof settings, .threads = threads, .patience = 1000, .door_cost = 100,
+                             .version = 2, .room = 1u << 30};
   if (threads < 1 || threads > DETIO_THREADS_MOST || detio_run_begin(&run, &settings, 10)) return 1;
   double begun = now(CLOCK_MONOTONIC), worked = now(CLOCK_PROCESS_CPUTIME_ID), all = (double)count * (double)threads;
   for (size_t i = 0; i < threads; i++) {

@@ -13,4 +13,9 @@
     } \
   } while (0)
 
+/* The settings of a run: how many threads, their patience, the version of the log and its room. */
+#define SETTINGS(threads_, patience_, version_, room_) \
+  {.size = sizeof(detio_settings), .threads = threads_, .patience = patience_, .door_cost = 100, .version = version_, \
+   .room = room_}
+
 #endif

@@ -165,6 +165,7 @@ typedef struct {
 } detio;
 
 typedef struct {
+  size_t size;        /* sizeof(detio_settings): of less, what a later version adds is not said */
   size_t threads;     /* 1 to 16 */
   uint32_t patience;  /* for how many turns a call may be blocked: 1000 */
   uint32_t door_cost; /* what a call that goes outside costs: 100 */

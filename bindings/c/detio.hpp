@@ -127,7 +127,7 @@ class thread {
 class run {
  public:
   explicit run(size_t threads, unsigned wait = 10, size_t room = size_t(1) << 22) : run_(new detio_run()) {
-    detio_settings settings = {threads, 1000, 100, 2, room};
+    detio_settings settings = {sizeof(detio_settings), threads, 1000, 100, 2, room};
     begun(detio_run_begin(run_.get(), &settings, wait));
   }
   run(const detio_settings &settings, unsigned wait) : run_(new detio_run()) {

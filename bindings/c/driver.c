@@ -18,7 +18,7 @@
 #include <unistd.h>
 
 static uint8_t data[32768];
-static const detio_settings one = {.threads = 1, .patience = 1000, .door_cost = 100, .version = 2, .room = 1 << 20};
+static const detio_settings one = SETTINGS(1, 1000, 2, 1 << 20);
 
 static int64_t now(void) {
   struct timespec it;

@@ -43,7 +43,7 @@ static size_t plays(detio_run *run) {
 }
 
 int main(void) {
-  static const detio_settings one = {.threads = 1, .patience = 10, .door_cost = 100, .version = 2, .room = 4096};
+  static const detio_settings one = SETTINGS(1, 10, 2, 4096);
   static uint8_t log[4096];
   size_t ample = 0;
   long refusals = 0;

@@ -97,7 +97,7 @@ static void plays(detio *m, left_by *left, bool replays) {
 
 /* A run with so much room for its log, and then a replay of that, with one allocation refused: how many there were. */
 static long run(size_t room, left_by *left) {
-  detio_settings one = {.threads = 1, .patience = 1000, .door_cost = 100, .version = 2, .room = room};
+  detio_settings one = SETTINGS(1, 1000, 2, room);
   left_by again;
   uint64_t unused;
   detio m = {0};

@@ -82,8 +82,8 @@ static int played(detio_run *run, uint64_t seed) {
   return greatest;
 }
 
-static const detio_settings settings = {.threads = THREADS, .patience = 1000, .door_cost = 100, .version = 2,
-                                        .room = 1 << 20};
+static const detio_settings settings = {.size = sizeof(detio_settings), .threads = THREADS, .patience = 1000,
+                                        .door_cost = 100, .version = 2, .room = 1 << 20};
 
 static int kept(detio_run *run, const char *path) {
   detio_run_end ended;

@@ -3,10 +3,11 @@
 #ifndef DETIO_REFUSING_H
 #define DETIO_REFUSING_H
 
-#include <stdbool.h>
-#include <stdio.h>
-#include <stdlib.h>
+#include "checks.h"
 
+#include <stdbool.h>
+
+#undef CHECK
 #define CHECK(what) \
   do { \
     if (!(what)) { \

@@ -16,7 +16,7 @@
 
 static const uint8_t none[1];
 static uint8_t data[32768];
-static const detio_settings one = {.threads = 1, .patience = 1000, .door_cost = 100, .version = 2, .room = 4096};
+static const detio_settings one = SETTINGS(1, 1000, 2, 4096);
 
 static uint32_t ask(detio *m, size_t t, detio_call call, const char *text) {
   return detio_ask(m, t, &call, text ? (const uint8_t *)text : none, text ? strlen(text) : 0, none, 0);
@@ -202,16 +202,18 @@ static void begins_nothing(detio *m, void (*is_as_it_was)(detio *)) {
     detio_settings settings;
     uint32_t code;
   } wrong[] = {
-      {{.threads = 17, .patience = 1000, .door_cost = 100, .version = 2, .room = 4096}, DETIO_BAD_SETTINGS},
-      {{.threads = 0, .patience = 1000, .door_cost = 100, .version = 2, .room = 4096}, DETIO_BAD_SETTINGS},
-      {{.threads = SIZE_MAX, .patience = 1000, .door_cost = 100, .version = 2, .room = 4096}, DETIO_BAD_SETTINGS},
-      {{.threads = 1, .patience = 1000, .door_cost = 100, .version = 3, .room = 4096}, DETIO_BAD_SETTINGS},
-      {{.threads = 1, .patience = 1000, .door_cost = 100, .version = 65537, .room = 4096}, DETIO_BAD_SETTINGS},
-      {{.threads = 1, .patience = 0, .door_cost = 100, .version = 2, .room = 4096}, DETIO_BAD_SETTINGS},
-      {{.threads = 1, .patience = 1000001, .door_cost = 100, .version = 2, .room = 4096}, DETIO_BAD_SETTINGS},
-      {{.threads = 1, .patience = 1000, .door_cost = UINT32_MAX, .version = 2, .room = 4096}, DETIO_BAD_SETTINGS},
-      {{.threads = 1, .patience = 1000, .door_cost = 100, .version = 2, .room = 15}, DETIO_LOG_FULL},
-      {{.threads = 1, .patience = 1000, .door_cost = 100, .version = 2, .room = SIZE_MAX}, DETIO_NO_MEMORY},
+      {{.size = 39, .threads = 1, .patience = 1000, .door_cost = 100, .version = 2, .room = 4096}, DETIO_BAD_SETTINGS},
+      {SETTINGS(17, 1000, 2, 4096), DETIO_BAD_SETTINGS},
+      {SETTINGS(0, 1000, 2, 4096), DETIO_BAD_SETTINGS},
+      {SETTINGS(SIZE_MAX, 1000, 2, 4096), DETIO_BAD_SETTINGS},
+      {SETTINGS(1, 1000, 3, 4096), DETIO_BAD_SETTINGS},
+      {SETTINGS(1, 1000, 65537, 4096), DETIO_BAD_SETTINGS},
+      {SETTINGS(1, 0, 2, 4096), DETIO_BAD_SETTINGS},
+      {SETTINGS(1, 1000001, 2, 4096), DETIO_BAD_SETTINGS},
+      {{.size = 40, .threads = 1, .patience = 1000, .door_cost = UINT32_MAX, .version = 2, .room = 4096},
+       DETIO_BAD_SETTINGS},
+      {SETTINGS(1, 1000, 2, 15), DETIO_LOG_FULL},
+      {SETTINGS(1, 1000, 2, SIZE_MAX), DETIO_NO_MEMORY},
   };
   for (size_t i = 0; i < sizeof wrong / sizeof *wrong; i++) {
     CHECK(detio_new(m, &wrong[i].settings) == wrong[i].code);

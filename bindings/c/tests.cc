@@ -72,7 +72,7 @@ static void a_run_is_replayed() {
 
 /* The thread that fails first is the cause, and the others go on. */
 static void the_cause_is_thrown() {
-  detio_settings settings = {2, 300, 100, 2, 4096};
+  detio_settings settings = {sizeof(detio_settings), 2, 300, 100, 2, 4096};
   detio_cc::run run(settings, 10);
   try {
     run.play([](detio_cc::thread &io) {

@@ -71,8 +71,8 @@ class Machine(ctypes.Structure):
 
 
 class Settings(ctypes.Structure):
-    _fields_ = [('threads', ctypes.c_size_t), ('patience', ctypes.c_uint32), ('door_cost', ctypes.c_uint32),
-                ('version', ctypes.c_uint32), ('room', ctypes.c_size_t)]
+    _fields_ = [('size', ctypes.c_size_t), ('threads', ctypes.c_size_t), ('patience', ctypes.c_uint32),
+                ('door_cost', ctypes.c_uint32), ('version', ctypes.c_uint32), ('room', ctypes.c_size_t)]
 
 
 class Call(ctypes.Structure):
@@ -581,8 +581,9 @@ class Run:
             raise ValueError('either all functions yield their calls, or none')
         self.functions = functions
         self.settings = Settings(
-            len(functions), number('patience', patience, 1, 1000000), number('door_cost', door_cost, 1, 1000000),
-            number('version', version, 1, 2), number('room', room, 16, (1 << 63) - 1))
+            ctypes.sizeof(Settings), len(functions), number('patience', patience, 1, 1000000),
+            number('door_cost', door_cost, 1, 1000000), number('version', version, 1, 2),
+            number('room', room, 16, (1 << 63) - 1))
         self.wait = number('wait', wait, 0, LONGEST_WAIT)
         self.has_turns = turns
 

@@ -46,7 +46,8 @@ const FAILURE: u32 = 7;
 impl Settings {
     /// So many threads, with the usual patience and door cost, and a log with room for 4 MiB.
     pub fn of(threads: usize) -> Settings {
-        Settings { threads, patience: 1000, door_cost: 100, version: 2, room: 1 << 22 }
+        let size = std::mem::size_of::<Settings>();
+        Settings { size, threads, patience: 1000, door_cost: 100, version: 2, room: 1 << 22 }
     }
 }
 

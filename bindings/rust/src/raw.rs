@@ -11,6 +11,7 @@ pub struct Place {
 #[repr(C)]
 #[derive(Clone, Copy, Debug)]
 pub struct Settings {
+    pub size: usize,
     pub threads: usize,
     pub patience: u32,
     pub door_cost: u32,

@@ -1,4 +1,4 @@
-ghost use Rattle.std.specs.Prelude.{◌≡◌, ◌≤◌, length, take};
+ghost use Rattle.std.specs.Prelude.{◌≡◌, ◌≤◌, drop, length, take};
 
 /// Puts bytes at the front of `room`, as many as have room there: how many there are.
 pub fn put_front(bytes: &[u8], room: &mut [u8]) -> usize
@@ -8,6 +8,7 @@ pub fn put_front(bytes: &[u8], room: &mut [u8]) -> usize
         → take (length bytes.now) room.new ≡ bytes.now }
     ensures part { length room.old ≤ length bytes.now
         → room.new ≡ take (length room.old) bytes.now }
+    ensures rest { drop (length bytes.now) room.new ≡ drop (length bytes.now) room.old }
 {
     let count = bytes.len().min(room.len());
     let (whole, _) = bytes.split_at(count);

@@ -70,6 +70,8 @@ pub struct OutcomeWords {
 #[repr(C)]
 #[derive(Clone, Copy)]
 pub struct RunWords {
+    /// How many bytes the words have that C says, so that later ones break nobody.
+    pub size: usize,
     /// How many threads there are.
     pub threads: usize,
     /// For how many turns a call may be blocked.

@@ -10,6 +10,7 @@ use Rattle.c_words.specs.declared.fault.LibraryFault.{LibraryFault}
 use Rattle.c_words.specs.declared.fault.LibraryFault.TheVariants as fault
 use Rattle.c_words.specs.declared.words.CallWords.{CallWords}
 use Rattle.c_words.specs.declared.words.OutcomeWords.{OutcomeWords}
+use Rattle.c_words.specs.declared.words.RunWords.{RunWords}
 use Rattle.input_log.specs.Fronts.{HasNoFront, IsFront}
 use Rattle.input_log.specs.Grammar.{in_range}
 use Rattle.input_log.specs.Headers.{header_for}
@@ -36,6 +37,7 @@ use Rattle.posix_terms.specs.declared.step.Step.TheVariants as step
 use Rattle.posix_terms.specs.declared.transcript.HistoryRow.{HistoryRow}
 use Rattle.posix_terms.specs.declared.transcript.Settings.{Settings}
 use Rattle.posix_terms.specs.declared.transcript.Turn.{Turn}
+use Rattle.detio_c.specs.Begun.{settings_said}
 use Rattle.detio_c.specs.Ends.{stop_of}
 use Rattle.detio_c.specs.Reads.{answers_at, bytes_at_end, bytes_came, counts_of, next_logged}
 use Rattle.detio_c.specs.declared.session.Session.{Session}
@@ -176,6 +178,12 @@ RefusesRun settings threads fault.BadSettings = in_range (header_for settings th
 RefusesRun settings threads fault.NoMemory = in_range (header_for settings threads) ≡ true
 RefusesRun settings threads fault.LogFull = in_range (header_for settings threads) ≡ true
 RefusesRun settings threads f = ⊥
+
+-- no run begins under what C says: there are not all words; or what they say begins none
+abbrev pub RefusesWords : RunWords → LibraryFault → Type 0
+RefusesWords words fault.BadSettings =
+    (words.size < 40) ⊎ RefusesRun (settings_said words) words.threads fault.BadSettings
+RefusesWords words f = RefusesRun (settings_said words) words.threads f
 
 -- no replay of these bytes begins: no log stands at their front; or there is no memory; or one
 -- does, and its head was not written

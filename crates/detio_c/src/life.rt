@@ -1,11 +1,12 @@
-ghost use Rattle.std.specs.Prelude.{◌≡◌, IsSomeAnd, MatchResult, Some, length};
+ghost use Rattle.std.specs.Prelude.{◌≡◌, ◌≤◌, IsSomeAnd, MatchResult, Some, length};
 ghost use Rattle.c_words.specs.declared.fault.LibraryFault.TheVariants as fault;
 ghost use Rattle.detio_c.specs.Begun.{Begins, BeginsReplay, settings_said};
 ghost use Rattle.detio_c.specs.Promise.{IsFaithfulIn, IsRefusal};
 ghost use Rattle.detio_c.specs.Reads.{HasFinished, HasStopped, InBoth, ReadsLogOf, ReadsNext};
 ghost use Rattle.detio_c.specs.Reads.{unused_of};
 ghost use Rattle.detio_c.specs.Refused.{IsFor, IsForSession, RefusesCount, RefusesEnd, RefusesLog};
-ghost use Rattle.detio_c.specs.Refused.{RefusesNext, RefusesReplay, RefusesRun, RefusesStop};
+ghost use Rattle.detio_c.specs.Refused.{RefusesNext, RefusesReplay, RefusesStop};
+ghost use Rattle.detio_c.specs.Refused.{RefusesWords};
 
 use crate::handle::Handle;
 use crate::place::{put, taken};
@@ -43,9 +44,10 @@ pub extern "C" fn detio_new(alloc: Global, h: &mut Handle, settings: &RunWords) 
     ensures faithful { result ≡ 0 → IsFaithfulIn h.new.value }
     ensures begun { result ≡ 0 → IsSomeAnd h.new.value
         (Begins (settings_said settings.now) settings.now.threads) }
+    ensures sized { result ≡ 0 → 40 ≤ settings.now.size }
     ensures refused { (result ≡ 0 → ⊥) → h.new.value ≡ h.old.value }
     ensures why { (result ≡ 0 → ⊥)
-        → IsFor (RefusesRun (settings_said settings.now) settings.now.threads) result }
+        → IsFor (RefusesWords settings.now) result }
 {
     begin(alloc, h, Session::new(alloc, settings))
 }

@@ -1,4 +1,4 @@
-ghost use Rattle.std.specs.Prelude.{◌≡◌, ◌<◌, ℕ, IfErr, IfOk, IfSome, IsSomeAnd, OnErr, OnOk};
+ghost use Rattle.std.specs.Prelude.{◌≡◌, ◌<◌, ◌≤◌, ℕ, IfErr, IfOk, IfSome, IsSomeAnd, OnErr, OnOk};
 ghost use Rattle.std.specs.Prelude.{if◌then◌else◌, false, get_or, length, option_copied, slice_get};
 ghost use Rattle.c_words.specs.Words.{outcome_of};
 ghost use Rattle.c_words.specs.declared.fault.LibraryFault.TheVariants as fault;
@@ -21,6 +21,7 @@ ghost use Rattle.detio_c.specs.Refused.{IsOver, NothingElse, OfThread, RefusesAn
 ghost use Rattle.detio_c.specs.Refused.{RefusesAsking, RefusesAttempt, RefusesCount, RefusesEnd};
 ghost use Rattle.detio_c.specs.Refused.{RefusesEvent, RefusesLog, RefusesMaking, RefusesNext};
 ghost use Rattle.detio_c.specs.Refused.{RefusesOutcome, RefusesReplay, RefusesRequest, RefusesRun};
+ghost use Rattle.detio_c.specs.Refused.{RefusesWords};
 ghost use Rattle.detio_c.specs.Refused.{RefusesSettling, RefusesStop, bytes_due};
 
 use crate::ends::{doors_of, run_end};
@@ -49,6 +50,9 @@ pub struct Session {
     came: Vec<u32>,
 }
 
+// How many bytes the words have that a run is made with.
+const RUN_BYTES: usize = 40;
+
 // So many attempts one call of settle makes.
 const ATTEMPTS: u32 = 4096;
 
@@ -57,8 +61,12 @@ impl Session {
     #[tactic(auto, unfolding(input_log::specs::Grammar::in_range))]
     pub fn new(alloc: Global, words: &RunWords) -> Result<Session, LibraryFault>
         ensures begun { IfOk result (Begins (settings_said words.now) words.now.threads) }
-        ensures why { IfErr result (RefusesRun (settings_said words.now) words.now.threads) }
+        ensures sized { IfOk result (λ _. 40 ≤ words.now.size) }
+        ensures why { IfErr result (RefusesWords words.now) }
     {
+        if words.size < RUN_BYTES {
+            return Err(LibraryFault::BadSettings);
+        }
         let version = match words.version {
             1 => 1,
             2 => 2,
