@@ -28,8 +28,8 @@ static void call_handler(const struct sigaction *act, int number, siginfo_t *abo
   if (act->sa_flags & SA_SIGINFO) act->sa_sigaction(number, about, context);
   else act->sa_handler(number);
 }
-/* A signal came while its thread was in the program's own code. Where it has made no call two seconds later, it may wait
- * for the handler, which then runs as it would without us. */
+/* A signal came while its thread was in the program's own code. Where it has made no call two seconds later, it may
+ * wait for the handler, which then runs as it would without us. */
 static struct { bool set; int timer; uint64_t entries; } later;
 static void look_later(int number) {
   struct sigevent then;

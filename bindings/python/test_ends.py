@@ -406,7 +406,8 @@ class Arguments(unittest.TestCase):
             return seen
 
         self.assertEqual(detio.Run(function).record().check().values[0], [
-            2, 2 + 4, 2 + 8, 'exclusive', 1 + 8, 'file', 'pipe', 'socketpair', 'host file', 'listener', 'stream', 'shut'])
+            2, 2 + 4, 2 + 8, 'exclusive', 1 + 8, 'file', 'pipe', 'socketpair', 'host file', 'listener', 'stream',
+            'shut'])
 
 
 class Roles(unittest.TestCase):
