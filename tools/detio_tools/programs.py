@@ -715,13 +715,21 @@ def seeds(trial: Trial) -> None:
     trial.check(len(printed) > 1, "seeds: six seeds have one schedule")
 
 
+def appears(path: pathlib.Path) -> bool:
+    """Whether a file is there, soon: who makes it may outlive the run, as a daemon does."""
+    until = time.monotonic() + 5
+    while not path.exists() and time.monotonic() < until:
+        time.sleep(0.01)
+    return path.exists()
+
+
 def children(trial: Trial) -> None:
     """A recording starts other processes, and a rerun none."""
     folder = trial.room / "children"
     make_inputs(folder)
     for way in range(16):
         run = trial.run("../children.log", str(trial.room / "programs/children"), str(way), folder=folder)
-        there = (folder / "made.txt").exists()
+        there = (folder / "made.txt").exists() if way == 10 else appears(folder / "made.txt")
         wanted = (4, False) if way == 10 else (0, True)
         trial.check((run.status, there) == wanted, f"children {way}: {run.status} {run.ours()}")
         (folder / "made.txt").unlink(missing_ok=True)
