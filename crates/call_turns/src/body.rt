@@ -34,4 +34,13 @@ impl Body {
             pair: PairBody::new(alloc)?,
         })
     }
+
+    // Nothing is in any of them, as at first.
+    pub fn clear(&mut self)
+        ensures { self.new ≡ first_kept }
+    {
+        self.file.clear();
+        self.pipe.clear();
+        self.pair.clear();
+    }
 }

@@ -1,4 +1,5 @@
 ghost use Rattle.std.specs.Prelude.{◌≡◌, ◌+◌, ◌<◌, ◌≤◌, ◌^◌, length, pos, [], IfOk, Some, None};
+ghost use Rattle.std.specs.Prelude.{replicate};
 ghost use Rattle.posix_terms.specs.declared.limits.TheConstants.Limits as limit;
 ghost use Rattle.sequential_object.specs.Locked.{keeps_table};
 ghost use Rattle.sequential_object.specs.Object.{File, Pair, Pipe};
@@ -16,6 +17,7 @@ ghost use Rattle.descriptor_table.specs.Laws.{TableFollows};
 ghost use Rattle.descriptor_table.specs.View.{view};
 ghost use Rattle.call_turns.specs.Acting.{IsInside, IsReady, Leaves, StandsChanged, acts_at};
 ghost use Rattle.call_turns.specs.Acting.{cleared, emptied};
+ghost use Rattle.call_turns.specs.Bodies.{first_kept};
 ghost use Rattle.call_turns.specs.Doors.{KeepsDoors, MovesDoors};
 ghost use Rattle.call_turns.specs.Patience.{act_bytes};
 ghost use Rattle.call_turns.specs.Store.{ComesTo, EndsTurn, IsDecided, KeepsStore, Performs};
@@ -71,6 +73,15 @@ impl Store {
             table: Table::new(alloc)?,
             bodies,
         })
+    }
+
+    /// Nothing is open any more, and there is only the root, as at first. It takes no memory, and keeps the room
+    /// for all bodies.
+    pub fn reset(&mut self)
+        ensures { self.new ≡ first_stored }
+    {
+        self.table.reset();
+        clear_all(self.bodies.as_mut_slice());
     }
 
     /// Performs the turn of a call that carries this, if the table alone answers it. Of any other call it
@@ -321,6 +332,15 @@ impl Store {
     {
         let _ = &self.bodies;
         self.bodies[object].pair.clear();
+    }
+}
+
+// Nothing is in any of these bodies any more.
+fn clear_all(bodies: &mut [Body])
+    ensures { bodies.new ≡ replicate (length bodies.old) first_kept }
+{
+    for i in 0..bodies.len() {
+        bodies[i].clear();
     }
 }
 

@@ -83,6 +83,19 @@ impl Table {
         })
     }
 
+    /// No descriptor is open any more, there is only the root, and nothing was ever made, as at
+    /// first. It takes no memory.
+    #[tactic(auto, using(crate::proofs::SoundLemmas::sound))]
+    pub fn reset(&mut self)
+        ensures { self.new ≡ empty_table }
+    {
+        self.descriptors = [None; Limits::DESCRIPTORS];
+        self.descriptions.reset();
+        self.names.reset();
+        self.objects = [None; Limits::OBJECTS];
+        self.made_objects = 0;
+    }
+
     /// The least number from `from` on that is not open.
     #[tactic(auto, using(crate::proofs::SoundLemmas::sound))]
     pub fn lowest_free(&self, from: usize) -> Option<i64>

@@ -51,6 +51,14 @@ impl Names {
         }
     }
 
+    /// No name any more: there is only the root, as at first.
+    #[tactic(auto, using(crate::proofs::NameLemmas::entries))]
+    pub fn reset(&mut self)
+        ensures { self.new ≡ fin.empty }
+    {
+        self.entries.clear();
+    }
+
     /// What a path names: nothing, a file or a directory. It is refused where the path is not well formed
     /// or leads through what is not a directory.
     #[tactic(auto, unfolding(crate::specs::Lookup::looked_up))]

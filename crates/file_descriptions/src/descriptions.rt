@@ -52,6 +52,15 @@ impl Descriptions {
         })
     }
 
+    /// No descriptions any more, and none was ever made, as at first. It takes no memory.
+    #[tactic(auto, using(crate::proofs::SlotLemmas::slots, crate::proofs::SoundLemmas::sound))]
+    pub fn reset(&mut self)
+        ensures { self.new ≡ no_descriptions }
+    {
+        self.slots.clear();
+        self.made = 0;
+    }
+
     /// A new description, at offset 0 and with one holder, under a key that is free. There is none where
     /// there are as many as there may be, and then nothing changes.
     #[tactic(auto, using(crate::proofs::SlotLemmas::slots, crate::proofs::SoundLemmas::sound))]
