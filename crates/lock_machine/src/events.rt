@@ -129,25 +129,25 @@ pub fn try_table(
 ) -> bool
     requires inside { i < length clocks.old }
     requires few { length clocks.old ≤ limit.THREADS }
-    requires born { BornWithin (2 * time_of clocks.old) shared.old.store }
+    requires born { BornWithin (2 * time_of clocks.old) shared.old.store.value }
     requires row { HasRoom (rows_due thread.old.phase) shared.old.rows }
     requires decided { HasDecidedAt i thread.old.phase shared.old.lock shared.old.rows.items
-        shared.old.store shared.old.wanted }
+        shared.old.store.value shared.old.wanted }
     ensures event { Tries patience result i
-        (parts (timed thread.old (clock_at clocks.old i)) shared.old.lock shared.old.store
+        (parts (timed thread.old (clock_at clocks.old i)) shared.old.lock shared.old.store.value
         shared.old.rows.items) (parts (timed thread.new (clock_at clocks.new i)) shared.new.lock
-        shared.new.store shared.new.rows.items) }
+        shared.new.store.value shared.new.rows.items) }
     ensures others { KeepsOthers i thread.old clocks.old thread.new clocks.new }
-    ensures births { BearsInTime (clock_at clocks.old i) shared.old.store (clock_at clocks.new i)
-        shared.new.store }
+    ensures births { BearsInTime (clock_at clocks.old i) shared.old.store.value
+        (clock_at clocks.new i) shared.new.store.value }
     ensures doors { wants_table thread.old.phase ≡ true → PlansDoors thread.new.phase
-        shared.old.store shared.new.store }
+        shared.old.store.value shared.new.store.value }
     ensures room { KeepsRoom (rows_due thread.old.phase) shared.old.rows (rows_due thread.new.phase)
         shared.new.rows }
     ensures decided { HasDecidedAt i thread.new.phase shared.new.lock shared.new.rows.items
-        shared.new.store shared.new.wanted }
-    ensures wanted { KeepsWanted i shared.old.lock shared.old.rows.items shared.old.store
-        shared.old.wanted shared.new.lock shared.new.rows.items shared.new.store shared.new.wanted }
+        shared.new.store.value shared.new.wanted }
+    ensures wanted { KeepsWanted i shared.old.lock shared.old.rows.items shared.old.store.value
+        shared.old.wanted shared.new.lock shared.new.rows.items shared.new.store.value shared.new.wanted }
 {
     match mem::replace(&mut thread.phase, Phase::Working) {
         Phase::WantsTable { call, carried } => {
@@ -181,23 +181,25 @@ fn plan(
     shared: &mut Shared,
 )
     requires thread { turn.thread < limit.THREADS }
-    requires born { BornWithin (2 ^ 126) shared.old.store }
+    requires born { BornWithin (2 ^ 126) shared.old.store.value }
     requires row { HasRoom 1 shared.old.rows }
     requires room { HasSpaceFor call thread.old.room }
     requires holds { shared.old.lock.holder ≡ Some turn.thread }
-    ensures event { (clock : ℕ) → PlansTo patience (number_locked shared.old.store call carried)
-        turn call carried (parts (timed thread.old clock) shared.old.lock shared.old.store
-        shared.old.rows.items) (parts (timed thread.new clock) shared.new.lock shared.new.store
+    ensures event { (clock : ℕ) → PlansTo patience (number_locked shared.old.store.value call
+        carried)
+        turn call carried (parts (timed thread.old clock) shared.old.lock shared.old.store.value
+        shared.old.rows.items) (parts (timed thread.new clock) shared.new.lock shared.new.store.value
         shared.new.rows.items) }
     ensures live { is_live thread.old.phase ≡ true → is_live thread.new.phase ≡ true }
-    ensures births { BearsInTime 0 shared.old.store 1 shared.new.store }
-    ensures doors { PlansDoors thread.new.phase shared.old.store shared.new.store }
+    ensures births { BearsInTime 0 shared.old.store.value 1 shared.new.store.value }
+    ensures doors { PlansDoors thread.new.phase shared.old.store.value shared.new.store.value }
     ensures room { KeepsRoom 1 shared.old.rows (rows_due thread.new.phase) shared.new.rows }
-    ensures decided { HasDecided thread.new.phase shared.new.rows.items shared.new.store
+    ensures decided { HasDecided thread.new.phase shared.new.rows.items shared.new.store.value
         shared.new.wanted }
     ensures lock { shared.new.lock ≡ shared.old.lock }
 {
-    match shared.store.perform_or_lock(&call, carried) {
+    let store = &mut *shared.store;
+    match store.perform_or_lock(&call, carried) {
         AtTable::Answers(reply) => {
             let row = shared.rows.len();
             shared.rows.push_reserved(granted_row(turn, call));
@@ -231,25 +233,25 @@ pub fn try_object(
 ) -> bool
     requires inside { i < length clocks.old }
     requires few { length clocks.old ≤ limit.THREADS }
-    requires born { BornWithin (2 * time_of clocks.old) shared.old.store }
+    requires born { BornWithin (2 * time_of clocks.old) shared.old.store.value }
     requires row { HasRoom (rows_due thread.old.phase) shared.old.rows }
     requires decided { HasDecidedAt i thread.old.phase shared.old.lock shared.old.rows.items
-        shared.old.store shared.old.wanted }
+        shared.old.store.value shared.old.wanted }
     ensures event { Reaches patience result i lock.old lock.new
-        (parts (timed thread.old (clock_at clocks.old i)) shared.old.lock shared.old.store
+        (parts (timed thread.old (clock_at clocks.old i)) shared.old.lock shared.old.store.value
         shared.old.rows.items) (parts (timed thread.new (clock_at clocks.new i)) shared.new.lock
-        shared.new.store shared.new.rows.items) }
+        shared.new.store.value shared.new.rows.items) }
     ensures others { KeepsOthers i thread.old clocks.old thread.new clocks.new }
-    ensures births { BearsInTime (clock_at clocks.old i) shared.old.store (clock_at clocks.new i)
-        shared.new.store }
+    ensures births { BearsInTime (clock_at clocks.old i) shared.old.store.value
+        (clock_at clocks.new i) shared.new.store.value }
     ensures doors { wants_object thread.old.phase ≡ true → StartsDoors thread.new.phase
-        shared.old.store shared.new.store }
+        shared.old.store.value shared.new.store.value }
     ensures room { KeepsRoom (rows_due thread.old.phase) shared.old.rows (rows_due thread.new.phase)
         shared.new.rows }
     ensures decided { HasDecidedAt i thread.new.phase shared.new.lock shared.new.rows.items
-        shared.new.store shared.new.wanted }
-    ensures wanted { KeepsWanted i shared.old.lock shared.old.rows.items shared.old.store
-        shared.old.wanted shared.new.lock shared.new.rows.items shared.new.store shared.new.wanted }
+        shared.new.store.value shared.new.wanted }
+    ensures wanted { KeepsWanted i shared.old.lock shared.old.rows.items shared.old.store.value
+        shared.old.wanted shared.new.lock shared.new.rows.items shared.new.store.value shared.new.wanted }
 {
     let Phase::WantsObject { .. } = thread.phase else {
         return false;
@@ -285,19 +287,19 @@ fn wants_to_keep(phase: &Phase) -> bool
 // Grants the call of thread i that wants an object.
 fn grant_object(patience: u32, i: usize, thread: &mut Thread, shared: &mut Shared)
     requires thread { i < limit.THREADS }
-    requires born { BornWithin (2 ^ 126) shared.old.store }
+    requires born { BornWithin (2 ^ 126) shared.old.store.value }
     requires row { HasRoom 1 shared.old.rows }
-    requires decided { HasDecided thread.old.phase shared.old.rows.items shared.old.store
+    requires decided { HasDecided thread.old.phase shared.old.rows.items shared.old.store.value
         shared.old.wanted }
     ensures event { (clock : ℕ) → GrantsObject patience thread.old.phase i
-        (parts (timed thread.old clock) shared.old.lock shared.old.store shared.old.rows.items)
-        (parts (timed thread.new clock) shared.new.lock shared.new.store shared.new.rows.items) }
+        (parts (timed thread.old clock) shared.old.lock shared.old.store.value shared.old.rows.items)
+        (parts (timed thread.new clock) shared.new.lock shared.new.store.value shared.new.rows.items) }
     ensures live { is_live thread.old.phase ≡ true → is_live thread.new.phase ≡ true }
-    ensures births { BearsInTime 0 shared.old.store 1 shared.new.store }
+    ensures births { BearsInTime 0 shared.old.store.value 1 shared.new.store.value }
     ensures doors { wants_object thread.old.phase ≡ true → StartsDoors thread.new.phase
-        shared.old.store shared.new.store }
+        shared.old.store.value shared.new.store.value }
     ensures room { KeepsRoom 1 shared.old.rows (rows_due thread.new.phase) shared.new.rows }
-    ensures decided { HasDecided thread.new.phase shared.new.rows.items shared.new.store
+    ensures decided { HasDecided thread.new.phase shared.new.rows.items shared.new.store.value
         shared.new.wanted }
     ensures lock { shared.new.lock ≡ shared.old.lock }
 {
@@ -345,25 +347,25 @@ fn grant(
     shared: &mut Shared,
 )
     requires thread { turn.thread < limit.THREADS }
-    requires born { BornWithin (2 ^ 126) shared.old.store }
+    requires born { BornWithin (2 ^ 126) shared.old.store.value }
     requires row { HasRoom 1 shared.old.rows }
     requires room { HasSpaceFor call thread.old.room }
-    requires decided { IsDecided shared.old.store call carried.moved locking }
+    requires decided { IsDecided shared.old.store.value call carried.moved locking }
     requires wanted { shared.old.wanted ≡ Some locking }
     ensures event { (clock : ℕ) → Grants patience turn call carried (Some object)
-        (parts (timed thread.old clock) shared.old.lock shared.old.store shared.old.rows.items)
-        (parts (timed thread.new clock) shared.new.lock shared.new.store shared.new.rows.items) }
+        (parts (timed thread.old clock) shared.old.lock shared.old.store.value shared.old.rows.items)
+        (parts (timed thread.new clock) shared.new.lock shared.new.store.value shared.new.rows.items) }
     ensures live { is_live thread.old.phase ≡ true → is_live thread.new.phase ≡ true }
-    ensures births { BearsInTime 0 shared.old.store 1 shared.new.store }
-    ensures doors { StartsDoors thread.new.phase shared.old.store shared.new.store }
+    ensures births { BearsInTime 0 shared.old.store.value 1 shared.new.store.value }
+    ensures doors { StartsDoors thread.new.phase shared.old.store.value shared.new.store.value }
     ensures room { KeepsRoom 1 shared.old.rows (rows_due thread.new.phase) shared.new.rows }
-    ensures decided { HasDecided thread.new.phase shared.new.rows.items shared.new.store
+    ensures decided { HasDecided thread.new.phase shared.new.rows.items shared.new.store.value
         shared.new.wanted }
     ensures lock { shared.new.lock ≡ shared.old.lock }
 {
     let start = thread
         .room
-        .perform(&mut shared.store, &call, locking, patience, carried);
+        .perform(&mut *shared.store, &call, locking, patience, carried);
     thread.phase = seat(turn, call, carried, Some(object), start, &mut shared.rows);
 }
 

@@ -9,7 +9,8 @@
 //! `ask` and `again` take memory; without it they fail and nothing changes. An attempt, an answer
 //! or an end takes none. A function that is given the number of a thread requires that there is
 //! such a thread. `rows` is the history so far, and `finish` leaves it with the steps that were
-//! asked.
+//! asked. A [`SpareStore`] brings the store of one machine, where its table and its objects stand, to
+//! the next: `finish_into` resets it and leaves it there, and `new_from` takes it.
 //!
 //! ```rust
 //! use lock_machine::{Attempt, LockMachine};
@@ -41,6 +42,7 @@ mod outside;
 mod refusals;
 mod refused;
 mod skipping;
+mod spare;
 mod start;
 mod steps;
 mod thread;
@@ -50,4 +52,5 @@ pub use laws::{machines_show, requests_asked};
 pub use machine::{Left, LockMachine};
 pub use outside::Progress;
 pub use refused::{Attempt, LockRefused};
+pub use spare::SpareStore;
 pub use thread::{Outing, Phase};

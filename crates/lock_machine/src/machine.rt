@@ -11,6 +11,7 @@ ghost use Rattle.lock_machine.specs.Shows.{logged_clock};
 ghost use Rattle.lock_machine.specs.Whole.{settings_in, thread_at};
 
 use crate::asked::Asked;
+use crate::spare::SpareStore;
 use crate::thread::{Phase, Thread};
 use call_turns::{Locking, Store};
 use det_mutex::DetLock;
@@ -22,7 +23,7 @@ use std::marker::Model;
 #[derive(Drop)]
 pub struct Shared {
     pub lock: DetLock,
-    pub store: Store,
+    pub store: Box<Store>,
     pub rows: Vec<PackedRow>,
     // what was decided of the last call that was to lock an object: it
     // holds as long as that call's thread keeps the table
@@ -46,11 +47,11 @@ pub struct LockMachine {
     ghost agree: { Agree threads.items clocks },
     ghost few: { length threads.items ≤ limit.THREADS },
     // each grant and each answer moves a clock, and makes two at most
-    ghost births: { BornWithin (2 * time_of clocks) shared.store },
+    ghost births: { BornWithin (2 * time_of clocks) shared.store.value },
     // a call that waits for a lock finds room for its row
     ghost room: { HasRoom (waiting threads.items) shared.rows },
     // what was decided of a call holds until it is granted, or answered where it keeps the table
-    ghost wanted: { AllHaveDecided threads.items shared.lock shared.rows.items shared.store
+    ghost wanted: { AllHaveDecided threads.items shared.lock shared.rows.items shared.store.value
         shared.wanted },
 }
 
@@ -69,7 +70,7 @@ impl Model for LockMachine {
       threads = joined m.threads.items m.clocks;
       lock = m.shared.lock;
       objects = m.objects.items;
-      table = m.shared.store;
+      table = m.shared.store.value;
       rows = m.shared.rows.items;
     } };
 }
@@ -185,13 +186,23 @@ impl LockMachine {
         ensures rows { result.rows.items ≡ self.rows }
         ensures asked { result.asked ≡ map (λ (t : Seen). t.asked) self.threads }
     {
+        self.finish_into(&mut SpareStore::new())
+    }
+
+    /// What is left of the machine when it is over, and its store for the next one. It takes no memory.
+    pub fn finish_into(self, spare: &mut SpareStore) -> Left
+        ensures rows { result.rows.items ≡ self.rows }
+        ensures asked { result.asked ≡ map (λ (t : Seen). t.asked) self.threads }
+    {
         let LockMachine {
             threads,
             shared,
             ..
         } = self;
+        let Shared { store, rows, .. } = shared;
+        spare.put(store);
         Left {
-            rows: shared.rows,
+            rows,
             asked: Asked::new(threads),
         }
     }

@@ -131,26 +131,26 @@ pub fn answer_outside(
     requires inside { i < length clocks.old }
     requires recorded { thread.old.phase ≡ phase.Recorded outing }
     requires few { length clocks.old ≤ limit.THREADS }
-    requires born { BornWithin (2 * time_of clocks.old) shared.old.store }
+    requires born { BornWithin (2 * time_of clocks.old) shared.old.store.value }
     requires decided { HasDecidedAt i thread.old.phase shared.old.lock shared.old.rows.items
-        shared.old.store shared.old.wanted }
+        shared.old.store.value shared.old.wanted }
     ensures event { AnswersOutside patience result i outing
         (outside_parts (timed thread.old (clock_at clocks.old i)) lock.old shared.old.lock
-        shared.old.store shared.old.rows.items)
+        shared.old.store.value shared.old.rows.items)
         (outside_parts (timed thread.new (clock_at clocks.new i)) lock.new shared.new.lock
-        shared.new.store shared.new.rows.items) }
+        shared.new.store.value shared.new.rows.items) }
     ensures others { KeepsOthers i thread.old clocks.old thread.new clocks.new }
-    ensures births { BearsInTime (clock_at clocks.old i) shared.old.store (clock_at clocks.new i)
-        shared.new.store }
-    ensures doors { AnswersDoors result outing shared.old.rows.items shared.old.store
-        shared.new.store }
+    ensures births { BearsInTime (clock_at clocks.old i) shared.old.store.value
+        (clock_at clocks.new i) shared.new.store.value }
+    ensures doors { AnswersDoors result outing shared.old.rows.items shared.old.store.value
+        shared.new.store.value }
     ensures room { KeepsRoom (rows_due thread.old.phase) shared.old.rows (rows_due thread.new.phase)
         shared.new.rows }
     ensures brings { BringsNoCall thread.old.phase shared.old.rows.items thread.new.phase
         shared.new.rows.items }
     ensures wanted { (k : ℕ) → shared.new.lock.holder ≡ Some k
-        → LeavesWanted k shared.old.lock shared.old.rows.items shared.old.store shared.old.wanted
-        shared.new.rows.items shared.new.store shared.new.wanted }
+        → LeavesWanted k shared.old.lock shared.old.rows.items shared.old.store.value
+        shared.old.wanted shared.new.rows.items shared.new.store.value shared.new.wanted }
 {
     if !holds_locks(outing, i, *lock, shared.lock) {
         return None;
@@ -171,7 +171,7 @@ pub fn answer_outside(
         shared.wanted,
         outcome,
         patience,
-        &mut shared.store,
+        &mut *shared.store,
         &mut thread.room,
     );
     row.answer(answer_copied(&end, &mut thread.room));

@@ -3,9 +3,10 @@ ghost use Rattle.posix_terms.specs.declared.limits.TheConstants.Limits as limit;
 ghost use Rattle.lock_machine.specs.Starting.{first_item, first_whole};
 
 use crate::machine::{LockMachine, Shared};
+use crate::spare::SpareStore;
 use crate::steps::Steps;
 use crate::thread::{Phase, Thread};
-use call_turns::{Room, Store};
+use call_turns::Room;
 use det_mutex::DetLock;
 use logical_clocks::Clocks;
 use posix_terms::{Limits, Settings};
@@ -18,6 +19,20 @@ impl LockMachine {
         requires within_limit { threads ≤ limit.THREADS }
         ensures { IfOk result (λ machine. machine ≡ first_whole settings threads) }
     {
+        LockMachine::new_from(alloc, &mut SpareStore::new(), threads, settings)
+    }
+
+    /// The same, with the store that another machine left, where there is one.
+    pub fn new_from(
+        alloc: Global,
+        spare: &mut SpareStore,
+        threads: usize,
+        settings: Settings,
+    ) -> Result<LockMachine, AllocError>
+        requires some { 1 ≤ threads }
+        requires within_limit { threads ≤ limit.THREADS }
+        ensures { IfOk result (λ machine. machine ≡ first_whole settings threads) }
+    {
         let clocks = Clocks::new(alloc, threads)?;
         Ok(LockMachine {
             settings,
@@ -25,7 +40,7 @@ impl LockMachine {
             clocks,
             shared: Shared {
                 lock: DetLock::new(),
-                store: Store::new(alloc)?,
+                store: spare.take(alloc)?,
                 rows: Vec::new(alloc),
                 wanted: None,
             },

@@ -16,8 +16,8 @@ returns-in-Some-clause-event c =
     let is : c.args.thread.now.phase ≡ phase.WantsObject want.call want.carried want.clock want.object = search rules in
     granted_object c.args.patience (Ok tt) c.args.thread.now.phase c.replace.new.dest c.args.i want.call want.carried
     want.clock want.object
-    (λ clock. parts (timed c.args.thread.now clock) shared.lock shared.store shared.rows.items)
-    (λ clock. parts (timed c.grant.new.thread clock) c.grant.new.shared.lock c.grant.new.shared.store
+    (λ clock. parts (timed c.args.thread.now clock) shared.lock shared.store.value shared.rows.items)
+    (λ clock. parts (timed c.grant.new.thread clock) c.grant.new.shared.lock c.grant.new.shared.store.value
     c.grant.new.shared.rows.items)
     is c.grant.ensures.event
 
@@ -28,9 +28,9 @@ unreachable-requires c =
     let is : c.args.thread.now.phase ≡ phase.WantsObject want.call want.carried want.clock want.object = search rules in
     let its : wanted_call c.args.thread.now.phase shared.rows.items ≡ Some (want.call, want.carried.moved) =
     ap (λ (p : Phase). wanted_call p shared.rows.items) is in
-    wanted_some shared.store want.call want.carried.moved
-    (subst (λ (w : Option Locking). IsWanted shared.store (want.call, want.carried.moved) w) c.in_default-wanted.is
-    (c.requires.decided (want.call, want.carried.moved) its))
+    wanted_some shared.store.value want.call want.carried.moved
+    (subst (λ (w : Option Locking). IsWanted shared.store.value (want.call, want.carried.moved) w)
+    c.in_default-wanted.is (c.requires.decided (want.call, want.carried.moved) its))
 
 pub grant-requires-clause-decided : goal.grant-requires-clause-decided
 grant-requires-clause-decided c =
@@ -39,6 +39,6 @@ grant-requires-clause-decided c =
     let is : c.args.thread.now.phase ≡ phase.WantsObject want.call want.carried want.clock want.object = search rules in
     let its : wanted_call c.args.thread.now.phase shared.rows.items ≡ Some (want.call, want.carried.moved) =
     ap (λ (p : Phase). wanted_call p shared.rows.items) is in
-    waits_decided shared.store c.in-Some.locking want.call want.carried.moved
-    (subst (λ (w : Option Locking). IsWanted shared.store (want.call, want.carried.moved) w) c.in-Some.is
+    waits_decided shared.store.value c.in-Some.locking want.call want.carried.moved
+    (subst (λ (w : Option Locking). IsWanted shared.store.value (want.call, want.carried.moved) w) c.in-Some.is
     (c.requires.decided (want.call, want.carried.moved) its))

@@ -25,9 +25,9 @@ returns-clause-event c =
     let want = c.in-WantsObject in
     let start = clock_at c.args.clocks.now c.args.i in
     let now = clock_at c.add.new.self c.args.i in
-    let old : Parts = parts (timed c.args.thread.now start) shared.lock shared.store shared.rows.items in
+    let old : Parts = parts (timed c.args.thread.now start) shared.lock shared.store.value shared.rows.items in
     let new : Parts = parts (timed c.grant_object.new.thread now) c.grant_object.new.shared.lock
-    c.grant_object.new.shared.store c.grant_object.new.shared.rows.items in
+    c.grant_object.new.shared.store.value c.grant_object.new.shared.rows.items in
     let is : c.args.thread.now.phase ≡ phase.WantsObject want.call want.carried want.clock want.object = search rules in
     let tried : object_taken (takes_object c.args.i c.args.lock.now old) c.args.i c.args.lock.now
     ≡ Some c.in-Some.taken = search rules in
@@ -50,7 +50,7 @@ returns-clause-event c =
     let moved : now ≡ start + c.if-is_some.cost = search rules in
     let clock : now ≡ start + object_cost true (keeps_table want.call) = moved ∙ ap (λ n. start + n) cost in
     let P : Shared → Type 0 = λ s. GrantsObject c.args.patience c.args.thread.now.phase c.args.i
-    (parts (timed c.args.thread.now now) s.lock s.store s.rows.items) new in
+    (parts (timed c.args.thread.now now) s.lock s.store.value s.rows.items) new in
     elim c.if-not-keeps-2.branch [
       | then-not-keeps-2 w ↦
           let frees : keeps_table want.call ≡ false = search rules in
@@ -71,9 +71,9 @@ returns-clause-event c =
 
 pub grant_object-requires-clause-born : goal.grant_object-requires-clause-born
 grant_object-requires-clause-born c =
-    let own = few_born c.args.clocks.now c.args.shared.now.store c.requires.few c.clock-now.ensures.all_within_limit
-    c.requires.born in
-    let P : Shared → Type 0 = λ s. BornWithin (2 ^ 126) s.store in
+    let own = few_born c.args.clocks.now c.args.shared.now.store.value c.requires.few
+    c.clock-now.ensures.all_within_limit c.requires.born in
+    let P : Shared → Type 0 = λ s. BornWithin (2 ^ 126) s.store.value in
     elim c.if-not-keeps-2.branch [
       | then-not-keeps-2 w ↦ subst P (sym w.shared-is) own
       | else-not-keeps-2 w ↦ subst P (sym w.shared-is) own
@@ -93,9 +93,9 @@ grant_object-requires-clause-row c =
 pub grant_object-requires-clause-decided : goal.grant_object-requires-clause-decided
 grant_object-requires-clause-decided c =
     let held : c.args.shared.now.lock.holder ≡ Some c.args.i = search rules in
-    let own : HasDecided c.args.thread.now.phase c.args.shared.now.rows.items c.args.shared.now.store
+    let own : HasDecided c.args.thread.now.phase c.args.shared.now.rows.items c.args.shared.now.store.value
     c.args.shared.now.wanted = c.requires.decided held in
-    let P : Shared → Type 0 = λ s. HasDecided c.args.thread.now.phase s.rows.items s.store s.wanted in
+    let P : Shared → Type 0 = λ s. HasDecided c.args.thread.now.phase s.rows.items s.store.value s.wanted in
     elim c.if-not-keeps-2.branch [
       | then-not-keeps-2 w ↦ subst P (sym w.shared-is) own
       | else-not-keeps-2 w ↦ subst P (sym w.shared-is) own

@@ -16,8 +16,8 @@ returns-then-attempt-clause-event c =
     let shared = c.args.shared.now in
     let start = clock_at c.args.clocks.now c.args.i in
     let now = clock_at c.add.new.self c.args.i in
-    let old : Parts = parts (timed c.args.thread.now start) shared.lock shared.store shared.rows.items in
-    let new : Parts = parts (timed c.plan.new.thread now) c.plan.new.shared.lock c.plan.new.shared.store
+    let old : Parts = parts (timed c.args.thread.now start) shared.lock shared.store.value shared.rows.items in
+    let new : Parts = parts (timed c.plan.new.thread now) c.plan.new.shared.lock c.plan.new.shared.store.value
     c.plan.new.shared.rows.items in
     let is : c.args.thread.now.phase ≡ phase.WantsTable c.in-WantsTable.call c.in-WantsTable.carried = search rules in
     let room : in_time old 1 ≡ true = search rules in
@@ -31,7 +31,7 @@ returns-then-attempt-clause-event c =
 
 pub plan-requires-clause-born : goal.plan-requires-clause-born
 plan-requires-clause-born c =
-    few_born c.args.clocks.now c.args.shared.now.store c.requires.few c.clock-clock.ensures.all_within_limit
+    few_born c.args.clocks.now c.args.shared.now.store.value c.requires.few c.clock-clock.ensures.all_within_limit
     c.requires.born
 
 pub plan-requires-clause-row : goal.plan-requires-clause-row

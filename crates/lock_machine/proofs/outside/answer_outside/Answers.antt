@@ -2,9 +2,11 @@ use Rattle.std.proofs.Common.{◌≡◌, ◌+◌, ◌^◌, ℕ, Bool, List, Opti
 use Rattle.std.proofs.Common.{length, rules}
 use Rattle.std.proofs.lemmas.Option.{none-some, slice_get_read}
 use Rattle.std.specs.Option.{option_map}
+use Rattle.call_turns.specs.Store.{Stored}
 use Rattle.posix_terms.specs.Calls.{Call}
 use Rattle.det_mutex.specs.declared.lock.DetLock.{DetLock}
-use Rattle.lock_machine.specs.Wanted.{KeepsCalls, LeavesWanted, call_at, kept_call, wanted_call}
+use Rattle.lock_machine.specs.Births.{BornWithin}
+use Rattle.lock_machine.specs.Wanted.{IsWanted, KeepsCalls, LeavesWanted, call_at, kept_call, wanted_call}
 use Rattle.lock_machine.specs.declared.thread.Phase.{Phase}
 use Rattle.lock_machine.proofs.Wanting.{calls_set}
 use Rattle.std.specs.Prelude.{nat_le, slice_get}
@@ -25,7 +27,7 @@ use Rattle.lock_machine.proofs.outside.answer_outside.Goals as goal
 pub returns-in_default-outcome-clause-event : goal.returns-in_default-outcome-clause-event
 returns-in_default-outcome-clause-event c =
     let old = outside_parts (timed c.args.thread.now (clock_at c.args.clocks.now c.args.i)) c.args.lock.now
-    c.args.shared.now.lock c.args.shared.now.store c.args.shared.now.rows.items in
+    c.args.shared.now.lock c.args.shared.now.store.value c.args.shared.now.rows.items in
     let held : holds_locks c.args.i c.args.outing old ≡ true = search rules in
     let rows = c.args.shared.now.rows in
     let size : rows.len ≡ length rows.items = search rules in
@@ -41,14 +43,14 @@ returns-in_default-outcome-clause-event c =
 pub free-requires : goal.free-requires
 free-requires c =
     let old = outside_parts (timed c.args.thread.now (clock_at c.args.clocks.now c.args.i)) c.args.lock.now
-    c.args.shared.now.lock c.args.shared.now.store c.args.shared.now.rows.items in
+    c.args.shared.now.lock c.args.shared.now.store.value c.args.shared.now.rows.items in
     let held : holds_locks c.args.i c.args.outing old ≡ true = search rules in
     object_holder c.args.i c.args.outing old held
 
 pub returns-clause-event : goal.returns-clause-event
 returns-clause-event c =
     let old = outside_parts (timed c.args.thread.now (clock_at c.args.clocks.now c.args.i)) c.args.lock.now
-    c.args.shared.now.lock c.args.shared.now.store c.args.shared.now.rows.items in
+    c.args.shared.now.lock c.args.shared.now.store.value c.args.shared.now.rows.items in
     let held : holds_locks c.args.i c.args.outing old ≡ true = search rules in
     let rows = c.args.shared.now.rows in
     let size : rows.len ≡ length rows.items = search rules in
@@ -75,12 +77,15 @@ returns-clause-event c =
     let outcome = c.in-Some-outcome.outcome.now in
     let patience = c.args.patience in
     let outing = c.args.outing in
-    let store = c.args.shared.now.store in
+    let store = c.args.shared.now.store.value in
+    let ends = subst (λ (h : Stored).
+    EndsTurn outing.keeps_table patience outing c.call.result.now outcome end h c.end_turn-end.new.store)
+    c.deref_mut.ensures.value c.end_turn-end.ensures.event in
     concludes_made patience c.args.i outing (Some c.told_as.result) old _ c.in-Some.row.now outcome
     end held there came room (ap Some c.told_as.ensures)
     (subst (λ (k : Call).
     EndsTurn outing.keeps_table patience outing k outcome end store c.end_turn-end.new.store)
-    c.call.ensures c.end_turn-end.ensures.event)
+    c.call.ensures ends)
     (λ k. record {
       thread = record (timed c.args.thread.now (at k)) { phase = behind k };
       object = object k;
@@ -91,8 +96,9 @@ returns-clause-event c =
 
 pub end_turn-end-requires-clause-born : goal.end_turn-end-requires-clause-born
 end_turn-end-requires-clause-born c =
-    few_born c.args.clocks.now c.args.shared.now.store c.requires.few c.clock-now.ensures.all_within_limit
-    c.requires.born
+    subst (BornWithin (2 ^ 126)) (sym c.deref_mut.ensures.value)
+    (few_born c.args.clocks.now c.args.shared.now.store.value c.requires.few c.clock-now.ensures.all_within_limit
+    c.requires.born)
 
 pub end_turn-end-requires-clause-decided : goal.end_turn-end-requires-clause-decided
 end_turn-end-requires-clause-decided c keeps =
@@ -110,8 +116,10 @@ end_turn-end-requires-clause-decided c keeps =
     ap (λ (p : Phase). wanted_call p rows.items) c.requires.recorded
     ∙ ap (λ (b : Bool). kept_call b (call_at rows.items outing.row) outing.carried.moved) keeps
     ∙ ap (λ (o : Option Call). kept_call true o outing.carried.moved) call in
-    c.requires.decided held (c.call.result.now, outing.carried.moved)
-    (its ∙ ap (λ (k : Call). Some (k, outing.carried.moved)) (sym c.call.ensures))
+    subst (λ (h : Stored). IsWanted h (c.call.result.now, outing.carried.moved) shared.wanted)
+    (sym c.deref_mut.ensures.value)
+    (c.requires.decided held (c.call.result.now, outing.carried.moved)
+    (its ∙ ap (λ (k : Call). Some (k, outing.carried.moved)) (sym c.call.ensures)))
 
 pub returns-clause-others : goal.returns-clause-others
 returns-clause-others c = record { others = search rules; forward = search rules; live = search rules }
@@ -138,7 +146,7 @@ returns-clause-wanted c = by_keep c.args.outing.keeps_table refl
 
     by_keep : (b : Bool) → c.args.outing.keeps_table ≡ b → (k : ℕ)
         → c.free_table.new.table.holder ≡ Some k
-        → LeavesWanted k old.lock old.rows.items old.store old.wanted rows c.end_turn-end.new.store
+        → LeavesWanted k old.lock old.rows.items old.store.value old.wanted rows c.end_turn-end.new.store
         old.wanted
     by_keep true is k held =
         let free : c.free_table.new.table.holder ≡ None =
@@ -147,5 +155,9 @@ returns-clause-wanted c = by_keep c.args.outing.keeps_table refl
         absurd (none-some k (sym free ∙ held))
     by_keep false is k held =
         let same : c.free_table.new.table ≡ old.lock = c.free_table.ensures
-        ∙ ap (λ (b : Bool). table_freed b (c.clock-now.result + 1) old.lock) is in
-        (ap (λ (l : DetLock). l.holder) (sym same) ∙ held, calls, c.end_turn-end.ensures.kept is, refl)
+        ∙ ap (λ (b : Bool). table_freed b (c.clock-now.result + 1) old.lock) is in (
+          ap (λ (l : DetLock). l.holder) (sym same) ∙ held,
+          calls,
+          c.end_turn-end.ensures.kept is ∙ c.deref_mut.ensures.value,
+          refl,
+        )

@@ -20,7 +20,7 @@ use Rattle.lock_machine.proofs.machine.LockMachine.answer_granted.Goals as goal
 pub invariant_of-self-inside : goal.invariant_of-self-inside
 invariant_of-self-inside c =
     let m = c.self.inside in
-    let v : Whole = whole_by m.settings m.threads.items m.clocks m.shared.lock m.objects.items m.shared.store
+    let v : Whole = whole_by m.settings m.threads.items m.clocks m.shared.lock m.objects.items m.shared.store.value
     m.shared.rows.items in
     let view : v ≡ c.args.self.now = c.self.view_is in
     let inside = inside_of m.threads.items m.clocks v c.args.self.now c.args.i refl view c.requires.inside in
@@ -31,14 +31,16 @@ invariant_of-self-inside c =
       (
         few_kept m.threads.items c.args.i c.answer.new.thread m.few,
         (
-          born_still m.clocks c.answer.new.clocks c.args.i c.index_mut.result.now c.answer.new.thread m.shared.store
+          born_still m.clocks c.answer.new.clocks c.args.i c.index_mut.result.now c.answer.new.thread
+              m.shared.store.value
               (clock_inside m.threads.items m.clocks c.args.i m.agree inside) c.answer.ensures.others m.births,
           (
             room_kept m.threads.items c.args.i c.index_mut.result.now c.answer.new.thread m.shared.rows
                 c.answer.new.rows inside c.index_mut.ensures.value c.answer.ensures.room m.room,
             (
               waits_still m.threads.items c.args.i c.index_mut.result.now c.answer.new.thread m.shared.lock
-                  c.answer.new.lock m.shared.rows.items c.answer.new.rows.items m.shared.store m.shared.wanted inside
+                  c.answer.new.lock m.shared.rows.items c.answer.new.rows.items m.shared.store.value m.shared.wanted
+                  inside
                   c.index_mut.ensures.value c.answer.ensures.brings c.answer.ensures.calls c.answer.ensures.holders
                   m.wanted,
               tt,
@@ -51,7 +53,7 @@ invariant_of-self-inside c =
 pub invariant_of-self-inside-in-Some : goal.invariant_of-self-inside-in-Some
 invariant_of-self-inside-in-Some c =
     let m = c.self.inside in
-    let v : Whole = whole_by m.settings m.threads.items m.clocks m.shared.lock m.objects.items m.shared.store
+    let v : Whole = whole_by m.settings m.threads.items m.clocks m.shared.lock m.objects.items m.shared.store.value
     m.shared.rows.items in
     let view : v ≡ c.args.self.now = c.self.view_is in
     let inside = inside_of m.threads.items m.clocks v c.args.self.now c.args.i refl view c.requires.inside in
@@ -64,14 +66,14 @@ invariant_of-self-inside-in-Some c =
         few_kept m.threads.items c.args.i c.answer-in-Some.new.thread m.few,
         (
           born_still m.clocks c.answer-in-Some.new.clocks c.args.i c.index_mut-in-Some.result.now
-              c.answer-in-Some.new.thread m.shared.store (clock_inside m.threads.items m.clocks c.args.i m.agree inside)
-              c.answer-in-Some.ensures.others m.births,
+              c.answer-in-Some.new.thread m.shared.store.value
+              (clock_inside m.threads.items m.clocks c.args.i m.agree inside) c.answer-in-Some.ensures.others m.births,
           (
             room_kept m.threads.items c.args.i c.index_mut-in-Some.result.now c.answer-in-Some.new.thread m.shared.rows
                 c.answer-in-Some.new.rows inside c.index_mut-in-Some.ensures.value c.answer-in-Some.ensures.room m.room,
             (
               waits_still m.threads.items c.args.i c.index_mut-in-Some.result.now c.answer-in-Some.new.thread
-                  m.shared.lock m.shared.lock m.shared.rows.items c.answer-in-Some.new.rows.items m.shared.store
+                  m.shared.lock m.shared.lock m.shared.rows.items c.answer-in-Some.new.rows.items m.shared.store.value
                   m.shared.wanted inside c.index_mut-in-Some.ensures.value c.answer-in-Some.ensures.brings
                   c.answer-in-Some.ensures.calls (λ k held. held) m.wanted,
               tt,
@@ -84,7 +86,7 @@ invariant_of-self-inside-in-Some c =
 pub returns-in-None-clause-event : goal.returns-in-None-clause-event
 returns-in-None-clause-event c =
     let m = c.self.inside in
-    let v : Whole = whole_by m.settings m.threads.items m.clocks m.shared.lock m.objects.items m.shared.store
+    let v : Whole = whole_by m.settings m.threads.items m.clocks m.shared.lock m.objects.items m.shared.store.value
     m.shared.rows.items in
     let view : v ≡ c.args.self.now = c.self.view_is in
     let inside = inside_of m.threads.items m.clocks v c.args.self.now c.args.i refl view c.requires.inside in
@@ -109,7 +111,7 @@ returns-in-None-clause-event c =
 pub returns-in-Some-get_mut-clause-event : goal.returns-in-Some-get_mut-clause-event
 returns-in-Some-get_mut-clause-event c =
     let m = c.self.inside in
-    let v : Whole = whole_by m.settings m.threads.items m.clocks m.shared.lock m.objects.items m.shared.store
+    let v : Whole = whole_by m.settings m.threads.items m.clocks m.shared.lock m.objects.items m.shared.store.value
     m.shared.rows.items in
     let view : v ≡ c.args.self.now = c.self.view_is in
     let inside = inside_of m.threads.items m.clocks v c.args.self.now c.args.i refl view c.requires.inside in
@@ -137,7 +139,7 @@ returns-in-Some-get_mut-clause-event c =
 pub returns-in_default-clause-event : goal.returns-in_default-clause-event
 returns-in_default-clause-event c =
     let m = c.self.inside in
-    let v : Whole = whole_by m.settings m.threads.items m.clocks m.shared.lock m.objects.items m.shared.store
+    let v : Whole = whole_by m.settings m.threads.items m.clocks m.shared.lock m.objects.items m.shared.store.value
     m.shared.rows.items in
     let view : v ≡ c.args.self.now = c.self.view_is in
     let inside = inside_of m.threads.items m.clocks v c.args.self.now c.args.i refl view c.requires.inside in
@@ -152,7 +154,7 @@ returns-in_default-clause-event c =
 pub index_mut-requires : goal.index_mut-requires
 index_mut-requires c =
     let m = c.self.inside in
-    let v : Whole = whole_by m.settings m.threads.items m.clocks m.shared.lock m.objects.items m.shared.store
+    let v : Whole = whole_by m.settings m.threads.items m.clocks m.shared.lock m.objects.items m.shared.store.value
     m.shared.rows.items in
     let view : v ≡ c.args.self.now = c.self.view_is in
     let inside = inside_of m.threads.items m.clocks v c.args.self.now c.args.i refl view c.requires.inside in
@@ -162,7 +164,7 @@ index_mut-requires c =
 pub index_mut-requires-in-Some : goal.index_mut-requires-in-Some
 index_mut-requires-in-Some c =
     let m = c.self.inside in
-    let v : Whole = whole_by m.settings m.threads.items m.clocks m.shared.lock m.objects.items m.shared.store
+    let v : Whole = whole_by m.settings m.threads.items m.clocks m.shared.lock m.objects.items m.shared.store.value
     m.shared.rows.items in
     let view : v ≡ c.args.self.now = c.self.view_is in
     let inside = inside_of m.threads.items m.clocks v c.args.self.now c.args.i refl view c.requires.inside in
@@ -172,7 +174,7 @@ index_mut-requires-in-Some c =
 pub answer-requires-clause-inside : goal.answer-requires-clause-inside
 answer-requires-clause-inside c =
     let m = c.self.inside in
-    let v : Whole = whole_by m.settings m.threads.items m.clocks m.shared.lock m.objects.items m.shared.store
+    let v : Whole = whole_by m.settings m.threads.items m.clocks m.shared.lock m.objects.items m.shared.store.value
     m.shared.rows.items in
     let view : v ≡ c.args.self.now = c.self.view_is in
     let inside = inside_of m.threads.items m.clocks v c.args.self.now c.args.i refl view c.requires.inside in
@@ -181,7 +183,7 @@ answer-requires-clause-inside c =
 pub answer-requires-in-Some-clause-inside : goal.answer-requires-in-Some-clause-inside
 answer-requires-in-Some-clause-inside c =
     let m = c.self.inside in
-    let v : Whole = whole_by m.settings m.threads.items m.clocks m.shared.lock m.objects.items m.shared.store
+    let v : Whole = whole_by m.settings m.threads.items m.clocks m.shared.lock m.objects.items m.shared.store.value
     m.shared.rows.items in
     let view : v ≡ c.args.self.now = c.self.view_is in
     let inside = inside_of m.threads.items m.clocks v c.args.self.now c.args.i refl view c.requires.inside in
@@ -190,7 +192,7 @@ answer-requires-in-Some-clause-inside c =
 pub answer-requires-clause-live : goal.answer-requires-clause-live
 answer-requires-clause-live c =
     let m = c.self.inside in
-    let v : Whole = whole_by m.settings m.threads.items m.clocks m.shared.lock m.objects.items m.shared.store
+    let v : Whole = whole_by m.settings m.threads.items m.clocks m.shared.lock m.objects.items m.shared.store.value
     m.shared.rows.items in
     let view : v ≡ c.args.self.now = c.self.view_is in
     let inside = inside_of m.threads.items m.clocks v c.args.self.now c.args.i refl view c.requires.inside in
@@ -203,7 +205,7 @@ answer-requires-clause-live c =
 pub answer-requires-in-Some-clause-live : goal.answer-requires-in-Some-clause-live
 answer-requires-in-Some-clause-live c =
     let m = c.self.inside in
-    let v : Whole = whole_by m.settings m.threads.items m.clocks m.shared.lock m.objects.items m.shared.store
+    let v : Whole = whole_by m.settings m.threads.items m.clocks m.shared.lock m.objects.items m.shared.store.value
     m.shared.rows.items in
     let view : v ≡ c.args.self.now = c.self.view_is in
     let inside = inside_of m.threads.items m.clocks v c.args.self.now c.args.i refl view c.requires.inside in
@@ -216,7 +218,7 @@ answer-requires-in-Some-clause-live c =
 pub returns-in-None-clause-count : goal.returns-in-None-clause-count
 returns-in-None-clause-count c =
     let m = c.self.inside in
-    let v : Whole = whole_by m.settings m.threads.items m.clocks m.shared.lock m.objects.items m.shared.store
+    let v : Whole = whole_by m.settings m.threads.items m.clocks m.shared.lock m.objects.items m.shared.store.value
     m.shared.rows.items in
     let view : v ≡ c.args.self.now = c.self.view_is in
     let inside = inside_of m.threads.items m.clocks v c.args.self.now c.args.i refl view c.requires.inside in
@@ -226,7 +228,7 @@ returns-in-None-clause-count c =
 pub returns-in-Some-get_mut-clause-count : goal.returns-in-Some-get_mut-clause-count
 returns-in-Some-get_mut-clause-count c =
     let m = c.self.inside in
-    let v : Whole = whole_by m.settings m.threads.items m.clocks m.shared.lock m.objects.items m.shared.store
+    let v : Whole = whole_by m.settings m.threads.items m.clocks m.shared.lock m.objects.items m.shared.store.value
     m.shared.rows.items in
     let view : v ≡ c.args.self.now = c.self.view_is in
     let inside = inside_of m.threads.items m.clocks v c.args.self.now c.args.i refl view c.requires.inside in
@@ -237,7 +239,7 @@ returns-in-Some-get_mut-clause-count c =
 pub returns-in-None-clause-rests : goal.returns-in-None-clause-rests
 returns-in-None-clause-rests c =
     let m = c.self.inside in
-    let v : Whole = whole_by m.settings m.threads.items m.clocks m.shared.lock m.objects.items m.shared.store
+    let v : Whole = whole_by m.settings m.threads.items m.clocks m.shared.lock m.objects.items m.shared.store.value
     m.shared.rows.items in
     let view : v ≡ c.args.self.now = c.self.view_is in
     let inside = inside_of m.threads.items m.clocks v c.args.self.now c.args.i refl view c.requires.inside in
@@ -256,7 +258,7 @@ returns-in-None-clause-rests c =
 pub returns-in-Some-get_mut-clause-rests : goal.returns-in-Some-get_mut-clause-rests
 returns-in-Some-get_mut-clause-rests c =
     let m = c.self.inside in
-    let v : Whole = whole_by m.settings m.threads.items m.clocks m.shared.lock m.objects.items m.shared.store
+    let v : Whole = whole_by m.settings m.threads.items m.clocks m.shared.lock m.objects.items m.shared.store.value
     m.shared.rows.items in
     let view : v ≡ c.args.self.now = c.self.view_is in
     let inside = inside_of m.threads.items m.clocks v c.args.self.now c.args.i refl view c.requires.inside in

@@ -23,7 +23,7 @@ returns-in_default-clause-event c = conclude_lost c.args.self.now c.args.i c.arg
 pub returns-in_default-get_mut-clause-event : goal.returns-in_default-get_mut-clause-event
 returns-in_default-get_mut-clause-event c =
     let m = c.self.inside in
-    let v : Whole = whole_by m.settings m.threads.items m.clocks m.shared.lock m.objects.items m.shared.store
+    let v : Whole = whole_by m.settings m.threads.items m.clocks m.shared.lock m.objects.items m.shared.store.value
     m.shared.rows.items in
     let view : v ≡ c.args.self.now = c.self.view_is in
     let inside = inside_of m.threads.items m.clocks v c.args.self.now c.args.i refl view c.requires.inside in
@@ -37,7 +37,7 @@ returns-in_default-get_mut-clause-event c =
 pub invariant_of-self-inside-2 : goal.invariant_of-self-inside-2
 invariant_of-self-inside-2 c =
     let m = c.self.inside in
-    let v : Whole = whole_by m.settings m.threads.items m.clocks m.shared.lock m.objects.items m.shared.store
+    let v : Whole = whole_by m.settings m.threads.items m.clocks m.shared.lock m.objects.items m.shared.store.value
     m.shared.rows.items in
     let view : v ≡ c.args.self.now = c.self.view_is in
     let inside = inside_of m.threads.items m.clocks v c.args.self.now c.args.i refl view c.requires.inside in
@@ -49,7 +49,7 @@ invariant_of-self-inside-2 c =
         few_kept m.threads.items c.args.i c.answer_outside.new.thread m.few,
         (
           born_later m.clocks c.answer_outside.new.clocks c.args.i c.index_mut.result.now c.answer_outside.new.thread
-              m.shared.store c.answer_outside.new.shared.store
+              m.shared.store.value c.answer_outside.new.shared.store.value
               (clock_inside m.threads.items m.clocks c.args.i m.agree inside) c.answer_outside.ensures.others
               c.answer_outside.ensures.births m.births,
           (
@@ -58,7 +58,8 @@ invariant_of-self-inside-2 c =
             (
               waits_answered m.threads.items c.args.i c.index_mut.result.now c.answer_outside.new.thread m.shared.lock
                   c.answer_outside.new.shared.lock m.shared.rows.items c.answer_outside.new.shared.rows.items
-                  m.shared.store c.answer_outside.new.shared.store m.shared.wanted c.answer_outside.new.shared.wanted
+                  m.shared.store.value c.answer_outside.new.shared.store.value m.shared.wanted
+                  c.answer_outside.new.shared.wanted
                   inside c.index_mut.ensures.value c.answer_outside.ensures.brings c.answer_outside.ensures.wanted
                   m.wanted,
               tt,
@@ -71,7 +72,7 @@ invariant_of-self-inside-2 c =
 pub returns-clause-event : goal.returns-clause-event
 returns-clause-event c =
     let m = c.self.inside in
-    let v : Whole = whole_by m.settings m.threads.items m.clocks m.shared.lock m.objects.items m.shared.store
+    let v : Whole = whole_by m.settings m.threads.items m.clocks m.shared.lock m.objects.items m.shared.store.value
     m.shared.rows.items in
     let view : v ≡ c.args.self.now = c.self.view_is in
     let inside = inside_of m.threads.items m.clocks v c.args.self.now c.args.i refl view c.requires.inside in
@@ -84,13 +85,13 @@ returns-clause-event c =
           c.answer_outside.new.clocks;
       lock = c.answer_outside.new.shared.lock;
       objects = set m.objects.items c.in-Some.object c.answer_outside.new.lock;
-      table = c.answer_outside.new.shared.store;
+      table = c.answer_outside.new.shared.store.value;
       rows = c.answer_outside.new.shared.rows.items;
     })) view
     (conclude_done c.arising_states.ensures.locks c.arising_states.ensures.rows c.arising_states.ensures.plans v
     m.threads.items m.clocks c.answer_outside.new.clocks c.args.i c.in-Some.object c.args.outing
     c.index_mut.result.now c.answer_outside.new.thread c.in-Some-get_mut.lock.now c.answer_outside.new.lock
-    c.answer_outside.new.shared.lock c.answer_outside.new.shared.store c.answer_outside.new.shared.rows.items
+    c.answer_outside.new.shared.lock c.answer_outside.new.shared.store.value c.answer_outside.new.shared.rows.items
     c.answer_outside.result item
     (phase_at m.threads.items c.args.i c.index_mut.result.now (phase.Recorded c.args.outing) inside
     c.index_mut.ensures.value (item_in (λ p. p ≡ phase.Recorded c.args.outing) m.threads.items m.clocks v
@@ -99,7 +100,7 @@ returns-clause-event c =
 pub index_mut-requires : goal.index_mut-requires
 index_mut-requires c =
     let m = c.self.inside in
-    let v : Whole = whole_by m.settings m.threads.items m.clocks m.shared.lock m.objects.items m.shared.store
+    let v : Whole = whole_by m.settings m.threads.items m.clocks m.shared.lock m.objects.items m.shared.store.value
     m.shared.rows.items in
     let view : v ≡ c.args.self.now = c.self.view_is in
     let inside = inside_of m.threads.items m.clocks v c.args.self.now c.args.i refl view c.requires.inside in
@@ -109,7 +110,7 @@ index_mut-requires c =
 pub answer_outside-requires-clause-inside : goal.answer_outside-requires-clause-inside
 answer_outside-requires-clause-inside c =
     let m = c.self.inside in
-    let v : Whole = whole_by m.settings m.threads.items m.clocks m.shared.lock m.objects.items m.shared.store
+    let v : Whole = whole_by m.settings m.threads.items m.clocks m.shared.lock m.objects.items m.shared.store.value
     m.shared.rows.items in
     let view : v ≡ c.args.self.now = c.self.view_is in
     let inside = inside_of m.threads.items m.clocks v c.args.self.now c.args.i refl view c.requires.inside in
@@ -118,7 +119,7 @@ answer_outside-requires-clause-inside c =
 pub answer_outside-requires-clause-recorded : goal.answer_outside-requires-clause-recorded
 answer_outside-requires-clause-recorded c =
     let m = c.self.inside in
-    let v : Whole = whole_by m.settings m.threads.items m.clocks m.shared.lock m.objects.items m.shared.store
+    let v : Whole = whole_by m.settings m.threads.items m.clocks m.shared.lock m.objects.items m.shared.store.value
     m.shared.rows.items in
     let view : v ≡ c.args.self.now = c.self.view_is in
     let inside = inside_of m.threads.items m.clocks v c.args.self.now c.args.i refl view c.requires.inside in
@@ -129,7 +130,7 @@ answer_outside-requires-clause-recorded c =
 pub returns-clause-count : goal.returns-clause-count
 returns-clause-count c =
     let m = c.self.inside in
-    let v : Whole = whole_by m.settings m.threads.items m.clocks m.shared.lock m.objects.items m.shared.store
+    let v : Whole = whole_by m.settings m.threads.items m.clocks m.shared.lock m.objects.items m.shared.store.value
     m.shared.rows.items in
     let view : v ≡ c.args.self.now = c.self.view_is in
     let inside = inside_of m.threads.items m.clocks v c.args.self.now c.args.i refl view c.requires.inside in
@@ -140,7 +141,7 @@ returns-clause-count c =
 pub returns-clause-rests : goal.returns-clause-rests
 returns-clause-rests c =
     let m = c.self.inside in
-    let v : Whole = whole_by m.settings m.threads.items m.clocks m.shared.lock m.objects.items m.shared.store
+    let v : Whole = whole_by m.settings m.threads.items m.clocks m.shared.lock m.objects.items m.shared.store.value
     m.shared.rows.items in
     let view : v ≡ c.args.self.now = c.self.view_is in
     let inside = inside_of m.threads.items m.clocks v c.args.self.now c.args.i refl view c.requires.inside in
@@ -154,12 +155,12 @@ returns-clause-rests c =
           c.answer_outside.new.clocks;
       lock = c.answer_outside.new.shared.lock;
       objects = set m.objects.items c.in-Some.object c.answer_outside.new.lock;
-      table = c.answer_outside.new.shared.store;
+      table = c.answer_outside.new.shared.store.value;
       rows = c.answer_outside.new.shared.rows.items;
     })) view
     (conclude_rests v m.threads.items m.clocks c.answer_outside.new.clocks c.args.i c.in-Some.object c.args.outing x
     c.answer_outside.new.thread c.in-Some-get_mut.lock.now c.answer_outside.new.lock
-    c.answer_outside.new.shared.lock c.answer_outside.new.shared.store c.answer_outside.new.shared.rows.items
+    c.answer_outside.new.shared.lock c.answer_outside.new.shared.store.value c.answer_outside.new.shared.rows.items
     c.answer_outside.result item own c.answer_outside.ensures.event)
 
 pub answer_outside-requires-clause-few : goal.answer_outside-requires-clause-few
@@ -169,8 +170,8 @@ answer_outside-requires-clause-few c =
 pub answer_outside-requires-clause-decided : goal.answer_outside-requires-clause-decided
 answer_outside-requires-clause-decided c =
     let m = c.self.inside in
-    let v : Whole = whole_by m.settings m.threads.items m.clocks m.shared.lock m.objects.items m.shared.store
+    let v : Whole = whole_by m.settings m.threads.items m.clocks m.shared.lock m.objects.items m.shared.store.value
     m.shared.rows.items in
     let inside = inside_of m.threads.items m.clocks v c.args.self.now c.args.i refl c.self.view_is c.requires.inside in
-    waits_at m.threads.items c.args.i c.index_mut.result.now m.shared.lock m.shared.rows.items m.shared.store
+    waits_at m.threads.items c.args.i c.index_mut.result.now m.shared.lock m.shared.rows.items m.shared.store.value
     m.shared.wanted inside c.index_mut.ensures.value m.wanted

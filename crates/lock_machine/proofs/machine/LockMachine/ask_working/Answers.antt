@@ -25,7 +25,7 @@ use Rattle.lock_machine.proofs.machine.LockMachine.ask_working.Goals as goal
 pub invariant_of-self-inside-2 : goal.invariant_of-self-inside-2
 invariant_of-self-inside-2 c =
     let m = c.self.inside in
-    let v : Whole = whole_by m.settings m.threads.items m.clocks m.shared.lock m.objects.items m.shared.store
+    let v : Whole = whole_by m.settings m.threads.items m.clocks m.shared.lock m.objects.items m.shared.store.value
     m.shared.rows.items in
     let view : v ≡ c.args.self.now = c.self.view_is in
     let inside = inside_of m.threads.items m.clocks v c.args.self.now c.args.i refl view c.requires.inside in
@@ -40,7 +40,7 @@ invariant_of-self-inside-2 c =
       (
         few_kept m.threads.items c.args.i c.ask.new.self m.few,
         (
-          born_still m.clocks c.ask.new.clocks c.args.i c.index_mut.result.now c.ask.new.self m.shared.store
+          born_still m.clocks c.ask.new.clocks c.args.i c.index_mut.result.now c.ask.new.self m.shared.store.value
               (clock_inside m.threads.items m.clocks c.args.i m.agree inside) c.ask.ensures.others m.births,
           (
             room_asked (is_call c.args.step) m.threads.items c.args.i c.index_mut.result.now c.ask.new.self
@@ -48,7 +48,7 @@ invariant_of-self-inside-2 c =
                 c.reserve_rows.ensures.kept m.room,
             (
               waits_still m.threads.items c.args.i c.index_mut.result.now c.ask.new.self m.shared.lock m.shared.lock
-                  m.shared.rows.items c.reserve_rows.new.rows.items m.shared.store m.shared.wanted inside
+                  m.shared.rows.items c.reserve_rows.new.rows.items m.shared.store.value m.shared.wanted inside
                   c.index_mut.ensures.value (subst
                   (λ (l : List HistoryRow). BringsNoCall c.index_mut.result.now.phase m.shared.rows.items
                   c.ask.new.self.phase l) (sym same_rows) (c.ask.ensures.brings m.shared.rows.items))
@@ -64,7 +64,7 @@ invariant_of-self-inside-2 c =
 pub returns-clause-event : goal.returns-clause-event
 returns-clause-event c =
     let m = c.self.inside in
-    let v : Whole = whole_by m.settings m.threads.items m.clocks m.shared.lock m.objects.items m.shared.store
+    let v : Whole = whole_by m.settings m.threads.items m.clocks m.shared.lock m.objects.items m.shared.store.value
     m.shared.rows.items in
     let view : v ≡ c.args.self.now = c.self.view_is in
     let inside = inside_of m.threads.items m.clocks v c.args.self.now c.args.i refl view c.requires.inside in
@@ -88,7 +88,7 @@ returns-clause-event c =
 pub index_mut-requires : goal.index_mut-requires
 index_mut-requires c =
     let m = c.self.inside in
-    let v : Whole = whole_by m.settings m.threads.items m.clocks m.shared.lock m.objects.items m.shared.store
+    let v : Whole = whole_by m.settings m.threads.items m.clocks m.shared.lock m.objects.items m.shared.store.value
     m.shared.rows.items in
     let inside = inside_of m.threads.items m.clocks v c.args.self.now c.args.i refl c.self.view_is c.requires.inside in
     let size : m.threads.len ≡ length m.threads.items = search rules in
@@ -97,7 +97,7 @@ index_mut-requires c =
 pub ask-requires-clause-inside : goal.ask-requires-clause-inside
 ask-requires-clause-inside c =
     let m = c.self.inside in
-    let v : Whole = whole_by m.settings m.threads.items m.clocks m.shared.lock m.objects.items m.shared.store
+    let v : Whole = whole_by m.settings m.threads.items m.clocks m.shared.lock m.objects.items m.shared.store.value
     m.shared.rows.items in
     let inside = inside_of m.threads.items m.clocks v c.args.self.now c.args.i refl c.self.view_is c.requires.inside in
     clock_inside m.threads.items m.clocks c.args.i m.agree inside
@@ -105,7 +105,7 @@ ask-requires-clause-inside c =
 pub ask-requires-clause-live : goal.ask-requires-clause-live
 ask-requires-clause-live c =
     let m = c.self.inside in
-    let v : Whole = whole_by m.settings m.threads.items m.clocks m.shared.lock m.objects.items m.shared.store
+    let v : Whole = whole_by m.settings m.threads.items m.clocks m.shared.lock m.objects.items m.shared.store.value
     m.shared.rows.items in
     let view : v ≡ c.args.self.now = c.self.view_is in
     let inside = inside_of m.threads.items m.clocks v c.args.self.now c.args.i refl view c.requires.inside in
@@ -116,7 +116,7 @@ ask-requires-clause-live c =
 pub returns-clause-count : goal.returns-clause-count
 returns-clause-count c =
     let m = c.self.inside in
-    let v : Whole = whole_by m.settings m.threads.items m.clocks m.shared.lock m.objects.items m.shared.store
+    let v : Whole = whole_by m.settings m.threads.items m.clocks m.shared.lock m.objects.items m.shared.store.value
     m.shared.rows.items in
     count_kept m.threads.items (set m.threads.items c.args.i c.ask.new.self) m.clocks c.ask.new.clocks v c.args.self.now
     refl c.self.view_is (length-set m.threads.items c.args.i c.ask.new.self)
@@ -124,7 +124,7 @@ returns-clause-count c =
 pub returns-clause-rests : goal.returns-clause-rests
 returns-clause-rests c =
     let m = c.self.inside in
-    let v : Whole = whole_by m.settings m.threads.items m.clocks m.shared.lock m.objects.items m.shared.store
+    let v : Whole = whole_by m.settings m.threads.items m.clocks m.shared.lock m.objects.items m.shared.store.value
     m.shared.rows.items in
     let view : v ≡ c.args.self.now = c.self.view_is in
     let inside = inside_of m.threads.items m.clocks v c.args.self.now c.args.i refl view c.requires.inside in
@@ -145,7 +145,7 @@ returns-clause-rests c =
 pub returns-clause-err : goal.returns-clause-err
 returns-clause-err c =
     let m = c.self.inside in
-    let v : Whole = whole_by m.settings m.threads.items m.clocks m.shared.lock m.objects.items m.shared.store
+    let v : Whole = whole_by m.settings m.threads.items m.clocks m.shared.lock m.objects.items m.shared.store.value
     m.shared.rows.items in
     let view : v ≡ c.args.self.now = c.self.view_is in
     let inside = inside_of m.threads.items m.clocks v c.args.self.now c.args.i refl view c.requires.inside in
@@ -167,7 +167,7 @@ returns-clause-memory c =
     let w = c.args.self.now in
     let i = c.args.i in
     let x = c.index_mut.result.now in
-    let v : Whole = whole_by m.settings m.threads.items m.clocks m.shared.lock m.objects.items m.shared.store
+    let v : Whole = whole_by m.settings m.threads.items m.clocks m.shared.lock m.objects.items m.shared.store.value
     m.shared.rows.items in
     let inside = inside_of m.threads.items m.clocks v w i refl c.self.view_is c.requires.inside in
     let seen : thread_at w i ≡ timed x (clock_at m.clocks i) =

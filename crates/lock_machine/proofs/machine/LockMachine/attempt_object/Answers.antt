@@ -22,7 +22,7 @@ use Rattle.lock_machine.proofs.machine.LockMachine.attempt_object.Goals as goal
 pub returns-in_default-clause-event : goal.returns-in_default-clause-event
 returns-in_default-clause-event c =
     let m = c.self.inside in
-    let v : Whole = whole_by m.settings m.threads.items m.clocks m.shared.lock m.objects.items m.shared.store
+    let v : Whole = whole_by m.settings m.threads.items m.clocks m.shared.lock m.objects.items m.shared.store.value
     m.shared.rows.items in
     let view : v ≡ c.args.self.now = c.self.view_is in
     let inside = inside_of m.threads.items m.clocks v c.args.self.now c.args.i refl view c.requires.inside in
@@ -35,7 +35,7 @@ returns-in_default-clause-event c =
 pub invariant_of-self-inside-2 : goal.invariant_of-self-inside-2
 invariant_of-self-inside-2 c =
     let m = c.self.inside in
-    let v : Whole = whole_by m.settings m.threads.items m.clocks m.shared.lock m.objects.items m.shared.store
+    let v : Whole = whole_by m.settings m.threads.items m.clocks m.shared.lock m.objects.items m.shared.store.value
     m.shared.rows.items in
     let view : v ≡ c.args.self.now = c.self.view_is in
     let inside = inside_of m.threads.items m.clocks v c.args.self.now c.args.i refl view c.requires.inside in (
@@ -47,7 +47,7 @@ invariant_of-self-inside-2 c =
         few_kept m.threads.items c.args.i c.try_object.new.thread m.few,
         (
           born_later m.clocks c.try_object.new.clocks c.args.i c.index_mut.result.now c.try_object.new.thread
-              m.shared.store c.try_object.new.shared.store
+              m.shared.store.value c.try_object.new.shared.store.value
               (clock_inside m.threads.items m.clocks c.args.i m.agree inside) c.try_object.ensures.others
               c.try_object.ensures.births m.births,
           (
@@ -55,8 +55,9 @@ invariant_of-self-inside-2 c =
                 c.try_object.new.shared.rows inside c.index_mut.ensures.value c.try_object.ensures.room m.room,
             (
               waits_kept m.threads.items c.args.i c.index_mut.result.now c.try_object.new.thread m.shared.lock
-                  c.try_object.new.shared.lock m.shared.rows.items c.try_object.new.shared.rows.items m.shared.store
-                  c.try_object.new.shared.store m.shared.wanted c.try_object.new.shared.wanted inside
+                  c.try_object.new.shared.lock m.shared.rows.items c.try_object.new.shared.rows.items
+                  m.shared.store.value
+                  c.try_object.new.shared.store.value m.shared.wanted c.try_object.new.shared.wanted inside
                   c.try_object.ensures.decided c.try_object.ensures.wanted m.wanted,
               tt,
             ),
@@ -68,7 +69,7 @@ invariant_of-self-inside-2 c =
 pub returns-clause-event : goal.returns-clause-event
 returns-clause-event c =
     let m = c.self.inside in
-    let v : Whole = whole_by m.settings m.threads.items m.clocks m.shared.lock m.objects.items m.shared.store
+    let v : Whole = whole_by m.settings m.threads.items m.clocks m.shared.lock m.objects.items m.shared.store.value
     m.shared.rows.items in
     let view : v ≡ c.args.self.now = c.self.view_is in
     let inside = inside_of m.threads.items m.clocks v c.args.self.now c.args.i refl view c.requires.inside in
@@ -78,12 +79,12 @@ returns-clause-event c =
       threads = joined (set m.threads.items c.args.i c.try_object.new.thread) c.try_object.new.clocks;
       lock = c.try_object.new.shared.lock;
       objects = set m.objects.items c.args.object c.try_object.new.lock;
-      table = c.try_object.new.shared.store;
+      table = c.try_object.new.shared.store.value;
       rows = c.try_object.new.shared.rows.items;
     })) c.try_object.result) view
     (reach_done c.calls_outside.ensures.keeps c.arising_states.ensures.plans v m.threads.items m.clocks
     c.try_object.new.clocks c.args.i c.args.object c.index_mut.result.now c.try_object.new.thread
-    c.try_object.new.shared.lock c.in-Some.lock.now c.try_object.new.lock c.try_object.new.shared.store
+    c.try_object.new.shared.lock c.in-Some.lock.now c.try_object.new.lock c.try_object.new.shared.store.value
     c.try_object.new.shared.rows.items (Ok c.try_object.result)
     (item_of m.threads.items m.clocks c.args.i c.index_mut.result.now c.try_object.new.thread c.try_object.new.clocks
     m.agree inside c.index_mut.ensures.value c.try_object.ensures.others)
@@ -95,7 +96,7 @@ returns-clause-event c =
 pub index_mut-requires : goal.index_mut-requires
 index_mut-requires c =
     let m = c.self.inside in
-    let v : Whole = whole_by m.settings m.threads.items m.clocks m.shared.lock m.objects.items m.shared.store
+    let v : Whole = whole_by m.settings m.threads.items m.clocks m.shared.lock m.objects.items m.shared.store.value
     m.shared.rows.items in
     let view : v ≡ c.args.self.now = c.self.view_is in
     let inside = inside_of m.threads.items m.clocks v c.args.self.now c.args.i refl view c.requires.inside in
@@ -105,7 +106,7 @@ index_mut-requires c =
 pub try_object-requires-clause-inside : goal.try_object-requires-clause-inside
 try_object-requires-clause-inside c =
     let m = c.self.inside in
-    let v : Whole = whole_by m.settings m.threads.items m.clocks m.shared.lock m.objects.items m.shared.store
+    let v : Whole = whole_by m.settings m.threads.items m.clocks m.shared.lock m.objects.items m.shared.store.value
     m.shared.rows.items in
     let view : v ≡ c.args.self.now = c.self.view_is in
     let inside = inside_of m.threads.items m.clocks v c.args.self.now c.args.i refl view c.requires.inside in
@@ -114,7 +115,7 @@ try_object-requires-clause-inside c =
 pub returns-clause-count : goal.returns-clause-count
 returns-clause-count c =
     let m = c.self.inside in
-    let v : Whole = whole_by m.settings m.threads.items m.clocks m.shared.lock m.objects.items m.shared.store
+    let v : Whole = whole_by m.settings m.threads.items m.clocks m.shared.lock m.objects.items m.shared.store.value
     m.shared.rows.items in
     let view : v ≡ c.args.self.now = c.self.view_is in
     let inside = inside_of m.threads.items m.clocks v c.args.self.now c.args.i refl view c.requires.inside in
@@ -124,7 +125,7 @@ returns-clause-count c =
 pub returns-clause-rests : goal.returns-clause-rests
 returns-clause-rests c =
     let m = c.self.inside in
-    let v : Whole = whole_by m.settings m.threads.items m.clocks m.shared.lock m.objects.items m.shared.store
+    let v : Whole = whole_by m.settings m.threads.items m.clocks m.shared.lock m.objects.items m.shared.store.value
     m.shared.rows.items in
     let view : v ≡ c.args.self.now = c.self.view_is in
     let inside = inside_of m.threads.items m.clocks v c.args.self.now c.args.i refl view c.requires.inside in
@@ -137,11 +138,11 @@ returns-clause-rests c =
       threads = joined (set m.threads.items c.args.i c.try_object.new.thread) c.try_object.new.clocks;
       lock = c.try_object.new.shared.lock;
       objects = set m.objects.items c.args.object c.try_object.new.lock;
-      table = c.try_object.new.shared.store;
+      table = c.try_object.new.shared.store.value;
       rows = c.try_object.new.shared.rows.items;
     })) c.try_object.result) view
     (reach_rests v m.threads.items m.clocks c.try_object.new.clocks c.args.i c.args.object x c.try_object.new.thread
-    c.try_object.new.shared.lock c.in-Some.lock.now c.try_object.new.lock c.try_object.new.shared.store
+    c.try_object.new.shared.lock c.in-Some.lock.now c.try_object.new.lock c.try_object.new.shared.store.value
     c.try_object.new.shared.rows.items (Ok c.try_object.result) item own c.try_object.ensures.event)
 
 pub try_object-requires-clause-few : goal.try_object-requires-clause-few
@@ -151,7 +152,7 @@ try_object-requires-clause-few c =
 pub try_object-requires-clause-row : goal.try_object-requires-clause-row
 try_object-requires-clause-row c =
     let m = c.self.inside in
-    let v : Whole = whole_by m.settings m.threads.items m.clocks m.shared.lock m.objects.items m.shared.store
+    let v : Whole = whole_by m.settings m.threads.items m.clocks m.shared.lock m.objects.items m.shared.store.value
     m.shared.rows.items in
     let inside = inside_of m.threads.items m.clocks v c.args.self.now c.args.i refl c.self.view_is c.requires.inside in
     room_at m.threads.items c.args.i c.index_mut.result.now m.shared.rows inside c.index_mut.ensures.value m.room
@@ -159,16 +160,16 @@ try_object-requires-clause-row c =
 pub try_object-requires-clause-decided : goal.try_object-requires-clause-decided
 try_object-requires-clause-decided c =
     let m = c.self.inside in
-    let v : Whole = whole_by m.settings m.threads.items m.clocks m.shared.lock m.objects.items m.shared.store
+    let v : Whole = whole_by m.settings m.threads.items m.clocks m.shared.lock m.objects.items m.shared.store.value
     m.shared.rows.items in
     let inside = inside_of m.threads.items m.clocks v c.args.self.now c.args.i refl c.self.view_is c.requires.inside in
-    waits_at m.threads.items c.args.i c.index_mut.result.now m.shared.lock m.shared.rows.items m.shared.store
+    waits_at m.threads.items c.args.i c.index_mut.result.now m.shared.lock m.shared.rows.items m.shared.store.value
     m.shared.wanted inside c.index_mut.ensures.value m.wanted
 
 pub returns-clause-doors : goal.returns-clause-doors
 returns-clause-doors c =
     let m = c.self.inside in
-    let v : Whole = whole_by m.settings m.threads.items m.clocks m.shared.lock m.objects.items m.shared.store
+    let v : Whole = whole_by m.settings m.threads.items m.clocks m.shared.lock m.objects.items m.shared.store.value
     m.shared.rows.items in
     let view : v ≡ c.args.self.now = c.self.view_is in
     let inside = inside_of m.threads.items m.clocks v c.args.self.now c.args.i refl view c.requires.inside in
@@ -180,7 +181,7 @@ returns-clause-doors c =
     let after : Phase =
     (let t : Seen = get_or (joined (set m.threads.items c.args.i c.try_object.new.thread) c.try_object.new.clocks)
     c.args.i no_thread in t.phase) in
-    subst (λ (w : Whole). StartsDoors after w.table c.try_object.new.shared.store) view
-    (subst (λ (p : Phase). StartsDoors p m.shared.store c.try_object.new.shared.store)
+    subst (λ (w : Whole). StartsDoors after w.table c.try_object.new.shared.store.value) view
+    (subst (λ (p : Phase). StartsDoors p m.shared.store.value c.try_object.new.shared.store.value)
     (sym (phase_set m.threads.items c.try_object.new.clocks c.args.i c.try_object.new.thread inside))
     (c.try_object.ensures.doors (wants_in x.phase c.args.object wants)))

@@ -22,7 +22,7 @@ use Rattle.lock_machine.proofs.machine.LockMachine.attempt_table.Goals as goal
 pub invariant_of-self-inside : goal.invariant_of-self-inside
 invariant_of-self-inside c =
     let m = c.self.inside in
-    let v : Whole = whole_by m.settings m.threads.items m.clocks m.shared.lock m.objects.items m.shared.store
+    let v : Whole = whole_by m.settings m.threads.items m.clocks m.shared.lock m.objects.items m.shared.store.value
     m.shared.rows.items in
     let view : v ≡ c.args.self.now = c.self.view_is in
     let inside = inside_of m.threads.items m.clocks v c.args.self.now c.args.i refl view c.requires.inside in
@@ -34,7 +34,7 @@ invariant_of-self-inside c =
         few_kept m.threads.items c.args.i c.try_table.new.thread m.few,
         (
           born_later m.clocks c.try_table.new.clocks c.args.i c.index_mut.result.now c.try_table.new.thread
-              m.shared.store c.try_table.new.shared.store
+              m.shared.store.value c.try_table.new.shared.store.value
               (clock_inside m.threads.items m.clocks c.args.i m.agree inside) c.try_table.ensures.others
               c.try_table.ensures.births m.births,
           (
@@ -42,8 +42,8 @@ invariant_of-self-inside c =
                 c.try_table.new.shared.rows inside c.index_mut.ensures.value c.try_table.ensures.room m.room,
             (
               waits_kept m.threads.items c.args.i c.index_mut.result.now c.try_table.new.thread m.shared.lock
-                  c.try_table.new.shared.lock m.shared.rows.items c.try_table.new.shared.rows.items m.shared.store
-                  c.try_table.new.shared.store m.shared.wanted c.try_table.new.shared.wanted inside
+                  c.try_table.new.shared.lock m.shared.rows.items c.try_table.new.shared.rows.items m.shared.store.value
+                  c.try_table.new.shared.store.value m.shared.wanted c.try_table.new.shared.wanted inside
                   c.try_table.ensures.decided c.try_table.ensures.wanted m.wanted,
               tt,
             ),
@@ -55,7 +55,7 @@ invariant_of-self-inside c =
 pub returns-clause-event : goal.returns-clause-event
 returns-clause-event c =
     let m = c.self.inside in
-    let v : Whole = whole_by m.settings m.threads.items m.clocks m.shared.lock m.objects.items m.shared.store
+    let v : Whole = whole_by m.settings m.threads.items m.clocks m.shared.lock m.objects.items m.shared.store.value
     m.shared.rows.items in
     let view : v ≡ c.args.self.now = c.self.view_is in
     let inside = inside_of m.threads.items m.clocks v c.args.self.now c.args.i refl view c.requires.inside in
@@ -68,12 +68,12 @@ returns-clause-event c =
     (record v {
       threads = joined (set m.threads.items c.args.i c.try_table.new.thread) c.try_table.new.clocks;
       lock = c.try_table.new.shared.lock;
-      table = c.try_table.new.shared.store;
+      table = c.try_table.new.shared.store.value;
       rows = c.try_table.new.shared.rows.items;
     })) c.try_table.result) view
     (try_done c.calls_outside.ensures.locks c.locks_and_doors.ensures.numbers v m.threads.items m.clocks
     c.try_table.new.clocks c.args.i table.0 table.1 x c.try_table.new.thread c.try_table.new.shared.lock
-    c.try_table.new.shared.store c.try_table.new.shared.rows.items (Ok c.try_table.result)
+    c.try_table.new.shared.store.value c.try_table.new.shared.rows.items (Ok c.try_table.result)
     (item_of m.threads.items m.clocks c.args.i x c.try_table.new.thread c.try_table.new.clocks m.agree inside
     c.index_mut.ensures.value c.try_table.ensures.others)
     m.agree turn table.2 c.try_table.ensures.event)
@@ -81,7 +81,7 @@ returns-clause-event c =
 pub index_mut-requires : goal.index_mut-requires
 index_mut-requires c =
     let m = c.self.inside in
-    let v : Whole = whole_by m.settings m.threads.items m.clocks m.shared.lock m.objects.items m.shared.store
+    let v : Whole = whole_by m.settings m.threads.items m.clocks m.shared.lock m.objects.items m.shared.store.value
     m.shared.rows.items in
     let view : v ≡ c.args.self.now = c.self.view_is in
     let inside = inside_of m.threads.items m.clocks v c.args.self.now c.args.i refl view c.requires.inside in
@@ -91,7 +91,7 @@ index_mut-requires c =
 pub try_table-requires-clause-inside : goal.try_table-requires-clause-inside
 try_table-requires-clause-inside c =
     let m = c.self.inside in
-    let v : Whole = whole_by m.settings m.threads.items m.clocks m.shared.lock m.objects.items m.shared.store
+    let v : Whole = whole_by m.settings m.threads.items m.clocks m.shared.lock m.objects.items m.shared.store.value
     m.shared.rows.items in
     let view : v ≡ c.args.self.now = c.self.view_is in
     let inside = inside_of m.threads.items m.clocks v c.args.self.now c.args.i refl view c.requires.inside in
@@ -100,7 +100,7 @@ try_table-requires-clause-inside c =
 pub returns-clause-count : goal.returns-clause-count
 returns-clause-count c =
     let m = c.self.inside in
-    let v : Whole = whole_by m.settings m.threads.items m.clocks m.shared.lock m.objects.items m.shared.store
+    let v : Whole = whole_by m.settings m.threads.items m.clocks m.shared.lock m.objects.items m.shared.store.value
     m.shared.rows.items in
     let view : v ≡ c.args.self.now = c.self.view_is in
     let inside = inside_of m.threads.items m.clocks v c.args.self.now c.args.i refl view c.requires.inside in
@@ -110,7 +110,7 @@ returns-clause-count c =
 pub returns-clause-rests : goal.returns-clause-rests
 returns-clause-rests c =
     let m = c.self.inside in
-    let v : Whole = whole_by m.settings m.threads.items m.clocks m.shared.lock m.objects.items m.shared.store
+    let v : Whole = whole_by m.settings m.threads.items m.clocks m.shared.lock m.objects.items m.shared.store.value
     m.shared.rows.items in
     let view : v ≡ c.args.self.now = c.self.view_is in
     let inside = inside_of m.threads.items m.clocks v c.args.self.now c.args.i refl view c.requires.inside in
@@ -121,11 +121,11 @@ returns-clause-rests c =
     (record v {
       threads = joined (set m.threads.items c.args.i c.try_table.new.thread) c.try_table.new.clocks;
       lock = c.try_table.new.shared.lock;
-      table = c.try_table.new.shared.store;
+      table = c.try_table.new.shared.store.value;
       rows = c.try_table.new.shared.rows.items;
     })) c.try_table.result) view
     (try_rests v m.threads.items m.clocks c.try_table.new.clocks c.args.i x c.try_table.new.thread
-    c.try_table.new.shared.lock c.try_table.new.shared.store c.try_table.new.shared.rows.items
+    c.try_table.new.shared.lock c.try_table.new.shared.store.value c.try_table.new.shared.rows.items
     (Ok c.try_table.result) item c.try_table.ensures.event)
 
 pub try_table-requires-clause-few : goal.try_table-requires-clause-few
@@ -135,7 +135,7 @@ try_table-requires-clause-few c =
 pub try_table-requires-clause-row : goal.try_table-requires-clause-row
 try_table-requires-clause-row c =
     let m = c.self.inside in
-    let v : Whole = whole_by m.settings m.threads.items m.clocks m.shared.lock m.objects.items m.shared.store
+    let v : Whole = whole_by m.settings m.threads.items m.clocks m.shared.lock m.objects.items m.shared.store.value
     m.shared.rows.items in
     let inside = inside_of m.threads.items m.clocks v c.args.self.now c.args.i refl c.self.view_is c.requires.inside in
     room_at m.threads.items c.args.i c.index_mut.result.now m.shared.rows inside c.index_mut.ensures.value m.room
@@ -143,16 +143,16 @@ try_table-requires-clause-row c =
 pub try_table-requires-clause-decided : goal.try_table-requires-clause-decided
 try_table-requires-clause-decided c =
     let m = c.self.inside in
-    let v : Whole = whole_by m.settings m.threads.items m.clocks m.shared.lock m.objects.items m.shared.store
+    let v : Whole = whole_by m.settings m.threads.items m.clocks m.shared.lock m.objects.items m.shared.store.value
     m.shared.rows.items in
     let inside = inside_of m.threads.items m.clocks v c.args.self.now c.args.i refl c.self.view_is c.requires.inside in
-    waits_at m.threads.items c.args.i c.index_mut.result.now m.shared.lock m.shared.rows.items m.shared.store
+    waits_at m.threads.items c.args.i c.index_mut.result.now m.shared.lock m.shared.rows.items m.shared.store.value
     m.shared.wanted inside c.index_mut.ensures.value m.wanted
 
 pub returns-clause-doors : goal.returns-clause-doors
 returns-clause-doors c =
     let m = c.self.inside in
-    let v : Whole = whole_by m.settings m.threads.items m.clocks m.shared.lock m.objects.items m.shared.store
+    let v : Whole = whole_by m.settings m.threads.items m.clocks m.shared.lock m.objects.items m.shared.store.value
     m.shared.rows.items in
     let view : v ≡ c.args.self.now = c.self.view_is in
     let inside = inside_of m.threads.items m.clocks v c.args.self.now c.args.i refl view c.requires.inside in
@@ -162,7 +162,7 @@ returns-clause-doors c =
     let after : Phase =
     (let t : Seen = get_or (joined (set m.threads.items c.args.i c.try_table.new.thread) c.try_table.new.clocks)
     c.args.i no_thread in t.phase) in
-    subst (λ (w : Whole). PlansDoors after w.table c.try_table.new.shared.store) view
-    (subst (λ (p : Phase). PlansDoors p m.shared.store c.try_table.new.shared.store)
+    subst (λ (w : Whole). PlansDoors after w.table c.try_table.new.shared.store.value) view
+    (subst (λ (p : Phase). PlansDoors p m.shared.store.value c.try_table.new.shared.store.value)
     (sym (phase_set m.threads.items c.try_table.new.clocks c.args.i c.try_table.new.thread inside))
     (c.try_table.ensures.doors (phase_in P m.threads.items c.args.i x inside c.index_mut.ensures.value wants)))

@@ -18,7 +18,7 @@ use Rattle.lock_machine.proofs.machine.LockMachine.end_working.Goals as goal
 pub invariant_of-self-inside : goal.invariant_of-self-inside
 invariant_of-self-inside c =
     let m = c.self.inside in
-    let v : Whole = whole_by m.settings m.threads.items m.clocks m.shared.lock m.objects.items m.shared.store
+    let v : Whole = whole_by m.settings m.threads.items m.clocks m.shared.lock m.objects.items m.shared.store.value
     m.shared.rows.items in
     let view : v ≡ c.args.self.now = c.self.view_is in
     let inside = inside_of m.threads.items m.clocks v c.args.self.now c.args.i refl view c.requires.inside in
@@ -28,14 +28,14 @@ invariant_of-self-inside c =
       (
         few_kept m.threads.items c.args.i c.end.new.self m.few,
         (
-          born_still m.clocks c.end.new.clocks c.args.i c.index_mut.result.now c.end.new.self m.shared.store
+          born_still m.clocks c.end.new.clocks c.args.i c.index_mut.result.now c.end.new.self m.shared.store.value
               (clock_inside m.threads.items m.clocks c.args.i m.agree inside) c.end.ensures.others m.births,
           (
             room_less m.threads.items c.args.i c.index_mut.result.now c.end.new.self m.shared.rows inside
                 c.index_mut.ensures.value c.end.ensures.due m.room,
             (
               waits_still m.threads.items c.args.i c.index_mut.result.now c.end.new.self m.shared.lock m.shared.lock
-                  m.shared.rows.items m.shared.rows.items m.shared.store m.shared.wanted inside
+                  m.shared.rows.items m.shared.rows.items m.shared.store.value m.shared.wanted inside
                   c.index_mut.ensures.value
                   (c.end.ensures.brings m.shared.rows.items) (λ n. refl) (λ k held. held) m.wanted,
               tt,
@@ -48,7 +48,7 @@ invariant_of-self-inside c =
 pub returns-clause-event : goal.returns-clause-event
 returns-clause-event c =
     let m = c.self.inside in
-    let v : Whole = whole_by m.settings m.threads.items m.clocks m.shared.lock m.objects.items m.shared.store
+    let v : Whole = whole_by m.settings m.threads.items m.clocks m.shared.lock m.objects.items m.shared.store.value
     m.shared.rows.items in
     let view : v ≡ c.args.self.now = c.self.view_is in
     let inside = inside_of m.threads.items m.clocks v c.args.self.now c.args.i refl view c.requires.inside in
@@ -66,7 +66,7 @@ returns-clause-event c =
 pub index_mut-requires : goal.index_mut-requires
 index_mut-requires c =
     let m = c.self.inside in
-    let v : Whole = whole_by m.settings m.threads.items m.clocks m.shared.lock m.objects.items m.shared.store
+    let v : Whole = whole_by m.settings m.threads.items m.clocks m.shared.lock m.objects.items m.shared.store.value
     m.shared.rows.items in
     let inside = inside_of m.threads.items m.clocks v c.args.self.now c.args.i refl c.self.view_is c.requires.inside in
     let size : m.threads.len ≡ length m.threads.items = search rules in
@@ -75,7 +75,7 @@ index_mut-requires c =
 pub end-requires-clause-inside : goal.end-requires-clause-inside
 end-requires-clause-inside c =
     let m = c.self.inside in
-    let v : Whole = whole_by m.settings m.threads.items m.clocks m.shared.lock m.objects.items m.shared.store
+    let v : Whole = whole_by m.settings m.threads.items m.clocks m.shared.lock m.objects.items m.shared.store.value
     m.shared.rows.items in
     let inside = inside_of m.threads.items m.clocks v c.args.self.now c.args.i refl c.self.view_is c.requires.inside in
     clock_inside m.threads.items m.clocks c.args.i m.agree inside
@@ -83,7 +83,7 @@ end-requires-clause-inside c =
 pub end-requires-clause-live : goal.end-requires-clause-live
 end-requires-clause-live c =
     let m = c.self.inside in
-    let v : Whole = whole_by m.settings m.threads.items m.clocks m.shared.lock m.objects.items m.shared.store
+    let v : Whole = whole_by m.settings m.threads.items m.clocks m.shared.lock m.objects.items m.shared.store.value
     m.shared.rows.items in
     let view : v ≡ c.args.self.now = c.self.view_is in
     let inside = inside_of m.threads.items m.clocks v c.args.self.now c.args.i refl view c.requires.inside in
@@ -94,7 +94,7 @@ end-requires-clause-live c =
 pub returns-clause-count : goal.returns-clause-count
 returns-clause-count c =
     let m = c.self.inside in
-    let v : Whole = whole_by m.settings m.threads.items m.clocks m.shared.lock m.objects.items m.shared.store
+    let v : Whole = whole_by m.settings m.threads.items m.clocks m.shared.lock m.objects.items m.shared.store.value
     m.shared.rows.items in
     count_kept m.threads.items (set m.threads.items c.args.i c.end.new.self) m.clocks c.end.new.clocks v c.args.self.now
     refl c.self.view_is (length-set m.threads.items c.args.i c.end.new.self)
@@ -102,7 +102,7 @@ returns-clause-count c =
 pub returns-clause-rests : goal.returns-clause-rests
 returns-clause-rests c =
     let m = c.self.inside in
-    let v : Whole = whole_by m.settings m.threads.items m.clocks m.shared.lock m.objects.items m.shared.store
+    let v : Whole = whole_by m.settings m.threads.items m.clocks m.shared.lock m.objects.items m.shared.store.value
     m.shared.rows.items in
     let view : v ≡ c.args.self.now = c.self.view_is in
     let inside = inside_of m.threads.items m.clocks v c.args.self.now c.args.i refl view c.requires.inside in

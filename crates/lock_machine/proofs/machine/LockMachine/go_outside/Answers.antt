@@ -17,7 +17,7 @@ use Rattle.lock_machine.proofs.machine.LockMachine.go_outside.Goals as goal
 pub invariant_of-self-inside : goal.invariant_of-self-inside
 invariant_of-self-inside c =
     let m = c.self.inside in
-    let v : Whole = whole_by m.settings m.threads.items m.clocks m.shared.lock m.objects.items m.shared.store
+    let v : Whole = whole_by m.settings m.threads.items m.clocks m.shared.lock m.objects.items m.shared.store.value
     m.shared.rows.items in
     let view : v ≡ c.args.self.now = c.self.view_is in
     let inside = inside_of m.threads.items m.clocks v c.args.self.now c.args.i refl view c.requires.inside in
@@ -29,14 +29,14 @@ invariant_of-self-inside c =
         few_kept m.threads.items c.args.i c.begin_outside.new.thread m.few,
         (
           born_still m.clocks c.begin_outside.new.clocks c.args.i c.index_mut.result.now c.begin_outside.new.thread
-              m.shared.store (clock_inside m.threads.items m.clocks c.args.i m.agree inside)
+              m.shared.store.value (clock_inside m.threads.items m.clocks c.args.i m.agree inside)
               c.begin_outside.ensures.others m.births,
           (
             room_less m.threads.items c.args.i c.index_mut.result.now c.begin_outside.new.thread m.shared.rows inside
                 c.index_mut.ensures.value c.begin_outside.ensures.due m.room,
             (
               waits_still m.threads.items c.args.i c.index_mut.result.now c.begin_outside.new.thread m.shared.lock
-                  m.shared.lock m.shared.rows.items m.shared.rows.items m.shared.store m.shared.wanted inside
+                  m.shared.lock m.shared.rows.items m.shared.rows.items m.shared.store.value m.shared.wanted inside
                   c.index_mut.ensures.value (c.begin_outside.ensures.brings m.shared.rows.items) (λ n. refl)
                   (λ k held. held) m.wanted,
               tt,
@@ -49,7 +49,7 @@ invariant_of-self-inside c =
 pub returns-clause-event : goal.returns-clause-event
 returns-clause-event c =
     let m = c.self.inside in
-    let v : Whole = whole_by m.settings m.threads.items m.clocks m.shared.lock m.objects.items m.shared.store
+    let v : Whole = whole_by m.settings m.threads.items m.clocks m.shared.lock m.objects.items m.shared.store.value
     m.shared.rows.items in
     let view : v ≡ c.args.self.now = c.self.view_is in
     let inside = inside_of m.threads.items m.clocks v c.args.self.now c.args.i refl view c.requires.inside in
@@ -70,7 +70,7 @@ returns-clause-event c =
 pub index_mut-requires : goal.index_mut-requires
 index_mut-requires c =
     let m = c.self.inside in
-    let v : Whole = whole_by m.settings m.threads.items m.clocks m.shared.lock m.objects.items m.shared.store
+    let v : Whole = whole_by m.settings m.threads.items m.clocks m.shared.lock m.objects.items m.shared.store.value
     m.shared.rows.items in
     let view : v ≡ c.args.self.now = c.self.view_is in
     let inside = inside_of m.threads.items m.clocks v c.args.self.now c.args.i refl view c.requires.inside in
@@ -80,7 +80,7 @@ index_mut-requires c =
 pub begin_outside-requires-clause-inside : goal.begin_outside-requires-clause-inside
 begin_outside-requires-clause-inside c =
     let m = c.self.inside in
-    let v : Whole = whole_by m.settings m.threads.items m.clocks m.shared.lock m.objects.items m.shared.store
+    let v : Whole = whole_by m.settings m.threads.items m.clocks m.shared.lock m.objects.items m.shared.store.value
     m.shared.rows.items in
     let view : v ≡ c.args.self.now = c.self.view_is in
     let inside = inside_of m.threads.items m.clocks v c.args.self.now c.args.i refl view c.requires.inside in
@@ -89,7 +89,7 @@ begin_outside-requires-clause-inside c =
 pub begin_outside-requires-clause-granted : goal.begin_outside-requires-clause-granted
 begin_outside-requires-clause-granted c =
     let m = c.self.inside in
-    let v : Whole = whole_by m.settings m.threads.items m.clocks m.shared.lock m.objects.items m.shared.store
+    let v : Whole = whole_by m.settings m.threads.items m.clocks m.shared.lock m.objects.items m.shared.store.value
     m.shared.rows.items in
     let view : v ≡ c.args.self.now = c.self.view_is in
     let inside = inside_of m.threads.items m.clocks v c.args.self.now c.args.i refl view c.requires.inside in
@@ -100,7 +100,7 @@ begin_outside-requires-clause-granted c =
 pub returns-clause-count : goal.returns-clause-count
 returns-clause-count c =
     let m = c.self.inside in
-    let v : Whole = whole_by m.settings m.threads.items m.clocks m.shared.lock m.objects.items m.shared.store
+    let v : Whole = whole_by m.settings m.threads.items m.clocks m.shared.lock m.objects.items m.shared.store.value
     m.shared.rows.items in
     let view : v ≡ c.args.self.now = c.self.view_is in
     let inside = inside_of m.threads.items m.clocks v c.args.self.now c.args.i refl view c.requires.inside in
@@ -111,7 +111,7 @@ returns-clause-count c =
 pub returns-clause-rests : goal.returns-clause-rests
 returns-clause-rests c =
     let m = c.self.inside in
-    let v : Whole = whole_by m.settings m.threads.items m.clocks m.shared.lock m.objects.items m.shared.store
+    let v : Whole = whole_by m.settings m.threads.items m.clocks m.shared.lock m.objects.items m.shared.store.value
     m.shared.rows.items in
     let view : v ≡ c.args.self.now = c.self.view_is in
     let inside = inside_of m.threads.items m.clocks v c.args.self.now c.args.i refl view c.requires.inside in

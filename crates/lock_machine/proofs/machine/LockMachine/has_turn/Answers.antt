@@ -8,7 +8,7 @@ use Rattle.lock_machine.proofs.machine.LockMachine.has_turn.Goals as goal
 pub is_turn-requires : goal.is_turn-requires
 is_turn-requires c =
     let m = c.self.inside in
-    let v : Whole = whole_by m.settings m.threads.items m.clocks m.shared.lock m.objects.items m.shared.store
+    let v : Whole = whole_by m.settings m.threads.items m.clocks m.shared.lock m.objects.items m.shared.store.value
     m.shared.rows.items in
     let view : v ≡ c.args.self.now = c.self.view_is in
     clock_inside m.threads.items m.clocks c.args.i m.agree
@@ -17,7 +17,7 @@ is_turn-requires c =
 pub returns : goal.returns
 returns c =
     let m = c.self.inside in
-    let v : Whole = whole_by m.settings m.threads.items m.clocks m.shared.lock m.objects.items m.shared.store
+    let v : Whole = whole_by m.settings m.threads.items m.clocks m.shared.lock m.objects.items m.shared.store.value
     m.shared.rows.items in
     let view : v ≡ c.args.self.now = c.self.view_is in
     let own : c.is_turn.result ≡ has_turn (live_clocks m.clocks) c.args.i = search rules in

@@ -76,7 +76,7 @@ invariant_of-self-inside c =
       (
         m.few,
         (
-          born_passed (time_of m.clocks) (time_of c.pass.new.clocks) m.shared.store passed.forward m.births,
+          born_passed (time_of m.clocks) (time_of c.pass.new.clocks) m.shared.store.value passed.forward m.births,
           (m.room, (m.wanted, tt)),
         ),
       ),
@@ -93,7 +93,7 @@ pub returns-then-turn-lt-CLOCK-clause-event : goal.returns-then-turn-lt-CLOCK-cl
 returns-then-turn-lt-CLOCK-clause-event c =
     let m = c.self.inside in
     let turn = c.next_opening-turn.result in
-    let v : Whole = whole_by m.settings m.threads.items m.clocks m.shared.lock m.objects.items m.shared.store
+    let v : Whole = whole_by m.settings m.threads.items m.clocks m.shared.lock m.objects.items m.shared.store.value
     m.shared.rows.items in
     skips c.failing_attempts.ensures v c.args.self.now turn m.threads.items m.clocks c.pass.new.clocks c.self.view_is
     m.agree c.next_opening-turn.ensures.within
@@ -122,8 +122,8 @@ pub returns-then-turn-lt-CLOCK-clause-inside : goal.returns-then-turn-lt-CLOCK-c
 returns-then-turn-lt-CLOCK-clause-inside c =
     let m = c.self.inside in
     let turn = c.next_opening-turn.result in
-    let v : Whole = whole_by m.settings m.threads.items c.pass.new.clocks m.shared.lock m.objects.items m.shared.store
-    m.shared.rows.items in
+    let v : Whole = whole_by m.settings m.threads.items c.pass.new.clocks m.shared.lock m.objects.items
+    m.shared.store.value m.shared.rows.items in
     let due = is_due m.shared.lock m.objects.items c.as_slice-2.result.now turn m.threads.items c.as_slice.result.now
     m.clocks c.as_slice.ensures.value c.as_slice-2.ensures.value
     (c.next_opening-turn.ensures.due c.if-turn-lt-CLOCK.true) in
@@ -133,7 +133,7 @@ pub returns-then-turn-lt-CLOCK-clause-next : goal.returns-then-turn-lt-CLOCK-cla
 returns-then-turn-lt-CLOCK-clause-next c many =
     let m = c.self.inside in
     let turn = c.next_opening-turn.result in
-    let v : Whole = whole_by m.settings m.threads.items m.clocks m.shared.lock m.objects.items m.shared.store
+    let v : Whole = whole_by m.settings m.threads.items m.clocks m.shared.lock m.objects.items m.shared.store.value
     m.shared.rows.items in
     need_not v turn m.threads.items m.clocks c.pass.new.clocks
     (are_passed turn m.threads.items c.as_slice-3.result.now m.clocks c.pass.new.clocks c.as_slice-3.ensures.value
@@ -144,7 +144,7 @@ returns-then-turn-lt-CLOCK-clause-next c many =
 pub returns-then-turn-lt-CLOCK-clause-count : goal.returns-then-turn-lt-CLOCK-clause-count
 returns-then-turn-lt-CLOCK-clause-count c =
     let m = c.self.inside in
-    let v : Whole = whole_by m.settings m.threads.items m.clocks m.shared.lock m.objects.items m.shared.store
+    let v : Whole = whole_by m.settings m.threads.items m.clocks m.shared.lock m.objects.items m.shared.store.value
     m.shared.rows.items in
     count_kept m.threads.items m.threads.items m.clocks c.pass.new.clocks v c.args.self.now refl c.self.view_is refl
 
@@ -154,7 +154,7 @@ pub returns-clause-event : goal.returns-clause-event
 returns-clause-event c =
     let m = c.self.inside in
     let turn = c.next_opening-turn.result in
-    let v : Whole = whole_by m.settings m.threads.items m.clocks m.shared.lock m.objects.items m.shared.store
+    let v : Whole = whole_by m.settings m.threads.items m.clocks m.shared.lock m.objects.items m.shared.store.value
     m.shared.rows.items in
     skips c.failing_attempts.ensures v c.args.self.now turn m.threads.items m.clocks c.pass.new.clocks c.self.view_is
     m.agree c.next_opening-turn.ensures.within
@@ -168,13 +168,13 @@ returns-clause-next c many = by_holder c.turn_holder-2.result refl
   where
     by_holder : (o : Option ℕ) → c.turn_holder-2.result ≡ o
         → (let m = c.self.inside in IfSome o
-        (NeedNotFail (whole_by m.settings m.threads.items c.pass.new.clocks m.shared.lock m.objects.items m.shared.store
-        m.shared.rows.items)))
+        (NeedNotFail (whole_by m.settings m.threads.items c.pass.new.clocks m.shared.lock m.objects.items
+        m.shared.store.value m.shared.rows.items)))
     by_holder None e = tt
     by_holder (Some i) e =
         let m = c.self.inside in
         let turn = c.next_opening-turn.result in
-        let v : Whole = whole_by m.settings m.threads.items m.clocks m.shared.lock m.objects.items m.shared.store
+        let v : Whole = whole_by m.settings m.threads.items m.clocks m.shared.lock m.objects.items m.shared.store.value
         m.shared.rows.items in
         let fails = all_fail m.shared.lock m.objects.items c.as_slice-2.result.now turn m.threads.items
         c.as_slice.result.now m.clocks c.as_slice.ensures.value c.as_slice-2.ensures.value
@@ -191,6 +191,6 @@ returns-clause-next c many = by_holder c.turn_holder-2.result refl
 pub returns-clause-count : goal.returns-clause-count
 returns-clause-count c =
     let m = c.self.inside in
-    let v : Whole = whole_by m.settings m.threads.items m.clocks m.shared.lock m.objects.items m.shared.store
+    let v : Whole = whole_by m.settings m.threads.items m.clocks m.shared.lock m.objects.items m.shared.store.value
     m.shared.rows.items in
     count_kept m.threads.items m.threads.items m.clocks c.pass.new.clocks v c.args.self.now refl c.self.view_is refl

@@ -16,7 +16,7 @@ use Rattle.lock_machine.proofs.machine.LockMachine.take_outcome.Goals as goal
 pub invariant_of-self-inside : goal.invariant_of-self-inside
 invariant_of-self-inside c =
     let m = c.self.inside in
-    let v : Whole = whole_by m.settings m.threads.items m.clocks m.shared.lock m.objects.items m.shared.store
+    let v : Whole = whole_by m.settings m.threads.items m.clocks m.shared.lock m.objects.items m.shared.store.value
     m.shared.rows.items in
     let view : v ≡ c.args.self.now = c.self.view_is in
     let inside = inside_of m.threads.items m.clocks v c.args.self.now c.args.i refl view c.requires.inside in
@@ -36,7 +36,7 @@ invariant_of-self-inside c =
             (
               waits_still m.threads.items c.args.i c.index_mut.result.now c.record.new.thread m.shared.lock
                   m.shared.lock
-                  m.shared.rows.items c.record.new.rows.items m.shared.store m.shared.wanted inside
+                  m.shared.rows.items c.record.new.rows.items m.shared.store.value m.shared.wanted inside
                   c.index_mut.ensures.value c.record.ensures.brings c.record.ensures.calls (λ k held. held) m.wanted,
               tt,
             ),
@@ -48,7 +48,7 @@ invariant_of-self-inside c =
 pub returns-clause-event : goal.returns-clause-event
 returns-clause-event c =
     let m = c.self.inside in
-    let v : Whole = whole_by m.settings m.threads.items m.clocks m.shared.lock m.objects.items m.shared.store
+    let v : Whole = whole_by m.settings m.threads.items m.clocks m.shared.lock m.objects.items m.shared.store.value
     m.shared.rows.items in
     let view : v ≡ c.args.self.now = c.self.view_is in
     let inside = inside_of m.threads.items m.clocks v c.args.self.now c.args.i refl view c.requires.inside in
@@ -69,7 +69,7 @@ returns-clause-event c =
 pub index_mut-requires : goal.index_mut-requires
 index_mut-requires c =
     let m = c.self.inside in
-    let v : Whole = whole_by m.settings m.threads.items m.clocks m.shared.lock m.objects.items m.shared.store
+    let v : Whole = whole_by m.settings m.threads.items m.clocks m.shared.lock m.objects.items m.shared.store.value
     m.shared.rows.items in
     let view : v ≡ c.args.self.now = c.self.view_is in
     let inside = inside_of m.threads.items m.clocks v c.args.self.now c.args.i refl view c.requires.inside in
@@ -79,7 +79,7 @@ index_mut-requires c =
 pub returns-clause-count : goal.returns-clause-count
 returns-clause-count c =
     let m = c.self.inside in
-    let v : Whole = whole_by m.settings m.threads.items m.clocks m.shared.lock m.objects.items m.shared.store
+    let v : Whole = whole_by m.settings m.threads.items m.clocks m.shared.lock m.objects.items m.shared.store.value
     m.shared.rows.items in
     let view : v ≡ c.args.self.now = c.self.view_is in
     let inside = inside_of m.threads.items m.clocks v c.args.self.now c.args.i refl view c.requires.inside in
@@ -89,7 +89,7 @@ returns-clause-count c =
 pub returns-clause-rests : goal.returns-clause-rests
 returns-clause-rests c =
     let m = c.self.inside in
-    let v : Whole = whole_by m.settings m.threads.items m.clocks m.shared.lock m.objects.items m.shared.store
+    let v : Whole = whole_by m.settings m.threads.items m.clocks m.shared.lock m.objects.items m.shared.store.value
     m.shared.rows.items in
     let view : v ≡ c.args.self.now = c.self.view_is in
     let inside = inside_of m.threads.items m.clocks v c.args.self.now c.args.i refl view c.requires.inside in
@@ -110,7 +110,7 @@ returns-clause-rests c =
 pub returns-clause-outlook : goal.returns-clause-outlook
 returns-clause-outlook c =
     let m = c.self.inside in
-    let v : Whole = whole_by m.settings m.threads.items m.clocks m.shared.lock m.objects.items m.shared.store
+    let v : Whole = whole_by m.settings m.threads.items m.clocks m.shared.lock m.objects.items m.shared.store.value
     m.shared.rows.items in
     let view : v ≡ c.args.self.now = c.self.view_is in
     let inside = inside_of m.threads.items m.clocks v c.args.self.now c.args.i refl view c.requires.inside in
@@ -127,7 +127,7 @@ returns-clause-outlook c =
 pub record-requires : goal.record-requires
 record-requires c =
     let m = c.self.inside in
-    let v : Whole = whole_by m.settings m.threads.items m.clocks m.shared.lock m.objects.items m.shared.store
+    let v : Whole = whole_by m.settings m.threads.items m.clocks m.shared.lock m.objects.items m.shared.store.value
     m.shared.rows.items in
     let view : v ≡ c.args.self.now = c.self.view_is in
     let inside = inside_of m.threads.items m.clocks v c.args.self.now c.args.i refl view c.requires.inside in

@@ -10,7 +10,7 @@ use Rattle.lock_machine.proofs.machine.LockMachine.turn_holder.Goals as goal
 pub returns-clause-holder : goal.returns-clause-holder
 returns-clause-holder c =
     let m = c.self.inside in
-    let v : Whole = whole_by m.settings m.threads.items m.clocks m.shared.lock m.objects.items m.shared.store
+    let v : Whole = whole_by m.settings m.threads.items m.clocks m.shared.lock m.objects.items m.shared.store.value
     m.shared.rows.items in
     let view : v ≡ c.args.self.now = c.self.view_is in
     let own : c.turn_holder.result ≡ turn_holder (live_clocks m.clocks) = search rules in
@@ -19,7 +19,7 @@ returns-clause-holder c =
 pub returns-clause-inside : goal.returns-clause-inside
 returns-clause-inside c =
     let m = c.self.inside in
-    let v : Whole = whole_by m.settings m.threads.items m.clocks m.shared.lock m.objects.items m.shared.store
+    let v : Whole = whole_by m.settings m.threads.items m.clocks m.shared.lock m.objects.items m.shared.store.value
     m.shared.rows.items in
     let view : v ≡ c.args.self.now = c.self.view_is in
     let own : c.turn_holder.result ≡ turn_holder (live_clocks m.clocks) = search rules in
@@ -30,7 +30,7 @@ returns-clause-inside c =
     by_holder None h = tt
     by_holder (Some i) h =
         let m = c.self.inside in
-        let v : Whole = whole_by m.settings m.threads.items m.clocks m.shared.lock m.objects.items m.shared.store
+        let v : Whole = whole_by m.settings m.threads.items m.clocks m.shared.lock m.objects.items m.shared.store.value
         m.shared.rows.items in
         subst (λ (n : ℕ). i < n) (length_seen m.threads.items m.clocks v c.args.self.now refl c.self.view_is)
         (holder_inside m.threads.items m.clocks i m.agree h)

@@ -15,28 +15,28 @@ use Rattle.std.specs.Vec.{vec_len}
 use Rattle.lock_machine.proofs.RowRoom.{room_first}
 use Rattle.det_mutex.specs.declared.lock.DetLock.{DetLock}
 use Rattle.lock_machine.proofs.Wanting.{waits_first}
-use Rattle.lock_machine.proofs.machine.LockMachine.new.Goals as goal
+use Rattle.lock_machine.proofs.machine.LockMachine.new_from.Goals as goal
 
 pub invariant_of-result-2 : goal.invariant_of-result-2
 invariant_of-result-2 c =
     let count = c.args.threads in
     let threads : c.in_ok-first_threads.field-0.items ≡ replicate count first_item = search rules in
     let clocks : c.clocks.inside.threads.items ≡ replicate count first_clock = search rules in
-    let table : c.in_ok-new.field-0 ≡ first_stored = search rules in
-    let none : vec_len c.new-4.result ≡ 0 = search rules in (
+    let table : c.in_ok-take.field-0.value ≡ first_stored = search rules in
+    let none : vec_len c.new-3.result ≡ 0 = search rules in (
       ap (map (λ (t : ThreadClock). t.live)) clocks ∙ agree_first count ∙ sym (ap lives threads),
       (
         subst (λ (n : ℕ). n ≤ limit.THREADS) (sym (ap length threads ∙ length-replicate count first_item))
             c.requires.within_limit,
         (
-          subst (λ (cs : List ThreadClock). BornWithin (2 * time_of cs) c.in_ok-new.field-0) (sym clocks)
+          subst (λ (cs : List ThreadClock). BornWithin (2 * time_of cs) c.in_ok-take.field-0.value) (sym clocks)
               (subst (λ (t : Stored). BornWithin (2 * time_of (replicate count first_clock)) t) (sym table)
               (born_first count)),
           (
-            room_first c.in_ok-first_threads.field-0.items count c.new-4.result threads none,
+            room_first c.in_ok-first_threads.field-0.items count c.new-3.result threads none,
             (
-              waits_first c.in_ok-first_threads.field-0.items c.new-2.result c.new-4.result.items c.in_ok-new.field-0
-                  None (ap (λ (l : DetLock). l.holder) c.new-2.ensures),
+              waits_first c.in_ok-first_threads.field-0.items c.new-2.result c.new-3.result.items
+                  c.in_ok-take.field-0.value None (ap (λ (l : DetLock). l.holder) c.new-2.ensures),
               tt,
             ),
           ),
@@ -50,8 +50,8 @@ returns c =
     let threads : c.in_ok-first_threads.field-0.items ≡ replicate count first_item = search rules in
     let clocks : c.clocks.inside.threads.items ≡ replicate count first_clock = search rules in
     let objects : c.in_ok-vec.field-0.items ≡ replicate 48 new_lock = search rules in
-    let table : c.in_ok-new.field-0 ≡ first_stored = search rules in
-    let rows : c.new-4.result.items ≡ [] = search rules in
+    let table : c.in_ok-take.field-0.value ≡ first_stored = search rules in
+    let rows : c.new-3.result.items ≡ [] = search rules in
     λ i. record {
       settings = c.args.settings;
       threads = (ap₂ joined threads clocks ∙ joined_first count) i;
