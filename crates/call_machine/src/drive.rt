@@ -18,7 +18,7 @@ use crate::log::Log;
 use crate::players::first_players;
 use crate::watch::WatchesRun;
 use input_log::{Header, Record};
-use lock_machine::{LockMachine, LockRefused, Phase, Progress, machines_show};
+use lock_machine::{LockMachine, LockRefused, Phase, Progress, SpareStore, machines_show};
 use lock_model::{arising_states, one_event, turn_order};
 use logical_clocks::least_is_found;
 use posix_terms::{Given, Outcomes};
@@ -26,9 +26,11 @@ use std::alloc::{AllocError, Global};
 use thread_scripts::{Script, Step, runs_end};
 
 impl Driver {
-    // A thread for each script, with its outcomes. The header's settings are the run's.
+    // A thread for each script, with its outcomes, over a spare store. The header's settings are the
+    // run's.
     pub fn new(
         alloc: Global,
+        spare: &mut SpareStore,
         scripts: Vec<Script>,
         outcomes: Vec<Outcomes>,
         header: Header,
@@ -39,7 +41,7 @@ impl Driver {
             ≡ first_played header scripts.items outcomes.items) }
     {
         Ok(Driver {
-            machine: LockMachine::new(alloc, scripts.len(), header.settings())?,
+            machine: LockMachine::new_from(alloc, spare, scripts.len(), header.settings())?,
             players: first_players(alloc, scripts)?,
             outcomes,
             log: Log::new(alloc, header)?,

@@ -6,21 +6,26 @@ ghost use Rattle.lock_machine.specs.Whole.{thread_at};
 use crate::driver::Driver;
 use crate::history::History;
 use crate::plain::Plain;
-use lock_machine::Phase;
+use lock_machine::{Phase, SpareStore};
 use machine::Stop;
 use posix_terms::{PackedRow, Row, Transcript, Transcripts};
 use std::alloc::{AllocError, Global};
 
 impl Driver {
-    // What is reported of a run that has come to its end, or diverged at this thread.
-    pub fn finish(self, alloc: Global, diverged: Option<usize>) -> Result<Plain, AllocError>
+    // What is reported of a run that has come to its end, or diverged at this thread. Its store is spare then.
+    pub fn finish(
+        self,
+        alloc: Global,
+        spare: &mut SpareStore,
+        diverged: Option<usize>,
+    ) -> Result<Plain, AllocError>
         ensures { IfOk result (λ plain. plain ≡ told diverged self.machine self.log) }
     {
         let stop = self.stop(diverged);
         let ended = self.machine.have_ended();
         let threads = self.machine.len();
         let Driver { machine, log, .. } = self;
-        let left = machine.finish();
+        let left = machine.finish_into(spare);
         let transcripts = transcripts(alloc, threads, left.rows.as_slice())?;
         Ok(Plain {
             transcripts: Transcripts::from_vec(transcripts),

@@ -7,8 +7,9 @@
 //! answer, or at a full clock. By the contract its history is legal, its turns rise, and the log
 //! covers it; by `plain_runs_agree` there is one plain run of given scripts, outcomes and settings.
 //! A [`PlainFault`] says why there was no run: wrong numbers, wrong settings or no memory.
-//! [`plain_run_watched`] also shows the run to a [`WatchesRun`] while it goes on. The machine for a
-//! driver of your own is here too, as [`Machine`].
+//! [`plain_run_watched`] also shows the run to a [`WatchesRun`] while it goes on. [`plain_run_kept`] is
+//! for many runs, one after the other: each takes the room of the one before, a [`SpareStore`]. The
+//! machine for a driver of your own is here too, as [`Machine`].
 //!
 //! ```rust
 //! use call_machine::plain_run;
@@ -46,8 +47,8 @@ mod watch;
 pub use fault::PlainFault;
 pub use history::History;
 pub use laws::{logs_of_plain_runs, logs_of_runs, plain_runs_agree};
-pub use lock_machine::Asked;
+pub use lock_machine::{Asked, SpareStore};
 pub use machine::{Attempt, Finished, Left, Machine, NotRecorded, Outing, Phase, Refused, Stop};
 pub use plain::Plain;
-pub use run::{plain_run, plain_run_watched};
+pub use run::{plain_run, plain_run_kept, plain_run_watched};
 pub use watch::{NoWatch, WatchesRun};

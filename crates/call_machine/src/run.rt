@@ -16,7 +16,7 @@ use crate::laws::logs_of_plain_runs;
 use crate::plain::Plain;
 use crate::watch::{NoWatch, WatchesRun};
 use input_log::Header;
-use lock_machine::machines_show;
+use lock_machine::{SpareStore, machines_show};
 use lock_model::{arising_states, outcomes_that_came, real_runs};
 use machine::{are_in_range, outcomes_are_recorded};
 use posix_terms::{Limits, Outcomes, Settings};
@@ -59,12 +59,72 @@ pub fn plain_run(
           settings = settings;
         })) plain.history.rows plain.log) }
 {
-    plain_run_watched(alloc, scripts, outcomes, settings, &mut NoWatch)
+    plain_run_kept(alloc, &mut SpareStore::new(), scripts, outcomes, settings)
+}
+
+/// Runs scripts as [`plain_run`] does, over the store that an earlier run left in `spare`, where there
+/// is one, and leaves it there for the next. After an error there may be none: then the next run
+/// makes a new one.
+pub fn plain_run_kept(
+    alloc: Global,
+    spare: &mut SpareStore,
+    scripts: Vec<Script>,
+    outcomes: Vec<Outcomes>,
+    settings: Settings,
+) -> Result<Plain, PlainFault>
+    ensures run { Runs result (record {
+      scripts = scripts.items;
+      outcomes = outcomes.items;
+      settings = settings;
+    }) }
+    ensures legal { IfOk result (λ plain. IsLegal settings plain.history.rows) }
+    ensures rising { IfOk result (λ plain. AreRising plain.history.rows) }
+    ensures covered { IfOk result (λ plain. IsCovered
+        (header_of (record {
+          scripts = scripts.items;
+          outcomes = outcomes.items;
+          settings = settings;
+        })) plain.history.rows plain.log) }
+{
+    run_watched(alloc, spare, scripts, outcomes, settings, &mut NoWatch)
 }
 
 /// Runs scripts as [`plain_run`] does, and shows `watch` how far the run has come.
 pub fn plain_run_watched<W: WatchesRun>(
     alloc: Global,
+    scripts: Vec<Script>,
+    outcomes: Vec<Outcomes>,
+    settings: Settings,
+    watch: &mut W,
+) -> Result<Plain, PlainFault>
+    ensures run { Runs result (record {
+      scripts = scripts.items;
+      outcomes = outcomes.items;
+      settings = settings;
+    }) }
+    ensures legal { IfOk result (λ plain. IsLegal settings plain.history.rows) }
+    ensures rising { IfOk result (λ plain. AreRising plain.history.rows) }
+    ensures covered { IfOk result (λ plain. IsCovered
+        (header_of (record {
+          scripts = scripts.items;
+          outcomes = outcomes.items;
+          settings = settings;
+        })) plain.history.rows plain.log) }
+{
+    run_watched(
+        alloc,
+        &mut SpareStore::new(),
+        scripts,
+        outcomes,
+        settings,
+        watch,
+    )
+}
+
+// The work of all of them.
+fn run_watched<W: WatchesRun>(
+    alloc: Global,
+    spare: &mut SpareStore,
     scripts: Vec<Script>,
     outcomes: Vec<Outcomes>,
     settings: Settings,
@@ -92,9 +152,9 @@ pub fn plain_run_watched<W: WatchesRun>(
     }
     laws();
     let header = Header::new(scripts.len() as u16, settings);
-    let mut driver = Driver::new(alloc, scripts, outcomes, header)?;
+    let mut driver = Driver::new(alloc, spare, scripts, outcomes, header)?;
     let diverged = driver.run(alloc, watch)?;
-    Ok(driver.finish(alloc, diverged)?)
+    Ok(driver.finish(alloc, spare, diverged)?)
 }
 
 fn counts_fit(scripts: usize, outcomes: usize) -> bool

@@ -5,7 +5,7 @@ use Rattle.machine.specs.Starting.{are_settings}
 use Rattle.call_machine.specs.Playing.{played_of}
 use Rattle.call_machine.specs.Setup.{Inputs}
 use Rattle.call_machine.proofs.Concluding.{begins_of, plain_covered, plain_legal, plain_rising, plain_run_is}
-use Rattle.call_machine.proofs.run.plain_run_watched.Goals as goal
+use Rattle.call_machine.proofs.run.run_watched.Goals as goal
 
 pub run-requires : goal.run-requires
 run-requires g c =
