@@ -11,6 +11,7 @@ use crate::groups::Groups;
 use crate::observation::Observation;
 use crate::trial::Trial;
 use crate::workers::Workers;
+use call_machine::SpareStore;
 use std::alloc::{AllocError, Global};
 use std::thread::{Threads, for_each_mut};
 
@@ -34,10 +35,12 @@ pub(crate) fn join_all(
     Ok(())
 }
 
-// What so many cases give, from this one on, in at most so many threads.
+// What so many cases give, from this one on, in at most so many threads. One thread alone runs them over the spare
+// store; several make one for each run.
 pub(crate) fn observe_cases<T: Threads + Sync, D: Delays + Sync>(
     workers: &Workers<'_, T>,
     alloc: Global,
+    spare: &mut SpareStore,
     trial: Trial<'_>,
     delays: &D,
     first: u64,
@@ -50,13 +53,49 @@ pub(crate) fn observe_cases<T: Threads + Sync, D: Delays + Sync>(
         (slice_index_or seen.items i d)) }
 {
     let mut seen = places(alloc, count)?;
+    if workers.jobs <= 1 {
+        observe_in_turn(alloc, spare, trial, delays, first, seen.as_mut_slice());
+        return Ok(seen);
+    }
     for_each_mut(
         workers.threads,
         seen.as_mut_slice(),
-        workers.jobs.max(1),
-        &|i, one| *one = trial.observe_case(alloc, delays, first + i as u64),
+        workers.jobs,
+        &|i, one| *one = observe_alone(alloc, trial, delays, first + i as u64),
     );
     Ok(seen)
+}
+
+// What this case gives, over a store of its own.
+fn observe_alone<D: Delays>(
+    alloc: Global,
+    trial: Trial<'_>,
+    delays: &D,
+    case: u64,
+) -> Result<Observation, RunFault>
+    ensures { CaseGives (subject trial.entry) (D.delays_of delays.now) case result }
+{
+    trial.observe_case(alloc, &mut SpareStore::new(), delays, case)
+}
+
+// What the cases from this one on give, as many as there are places for it, one after the other over the spare store.
+fn observe_in_turn<D: Delays>(
+    alloc: Global,
+    spare: &mut SpareStore,
+    trial: Trial<'_>,
+    delays: &D,
+    first: u64,
+    seen: &mut [Result<Observation, RunFault>],
+)
+    requires { first + length seen.old < 2 ^ 64 }
+    ensures len { length seen.new ≡ length seen.old }
+    ensures each { (i : ℕ) (d : _) → i < length seen.old
+        → CaseGives (subject trial.entry) (D.delays_of delays.now) (first + i)
+        (slice_index_or seen.new i d) }
+{
+    for i in 0..seen.len() {
+        seen[i] = trial.observe_case(alloc, spare, delays, first + i as u64);
+    }
 }
 
 // A place for what each of so many cases gives.

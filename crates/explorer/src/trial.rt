@@ -14,7 +14,7 @@ use crate::progress::ReportsProgress;
 use crate::runs::run_copied;
 use crate::vary::varied_texts;
 use crate::workers::Workers;
-use call_machine::Plain;
+use call_machine::{Plain, SpareStore};
 use posix_terms::{Bytes, Outcomes, Settings};
 use std::alloc::Global;
 use std::ops::Range;
@@ -50,10 +50,19 @@ impl Trial<'_> {
             IsFaultOf (subject self.entry) (D.delays_of delays.now) cases.start cases.end) }
     {
         let mut groups = Groups::new(alloc);
+        let mut spare = SpareStore::new();
         let mut case = cases.start;
         while case < cases.end {
             let count = (cases.end - case).min(workers.at_a_time() as u64);
-            let seen = observe_cases(workers, alloc, self, delays, case, count as usize)?;
+            let seen = observe_cases(
+                workers,
+                alloc,
+                &mut spare,
+                self,
+                delays,
+                case,
+                count as usize,
+            )?;
             join_all(&mut groups, case, seen)?;
             case += count;
             let all = cases.end - cases.start;
@@ -62,11 +71,13 @@ impl Trial<'_> {
         Ok(groups)
     }
 
-    /// What is seen in the plain run of the scripts with the delays of this case. The errors are
-    /// those of [`run_texts`](crate::run_texts) for the texts with their delays.
+    /// What is seen in the plain run of the scripts with the delays of this case, over the store that
+    /// an earlier run left in `spare`, where there is one; it leaves it there for the next. The errors
+    /// are those of [`run_texts`](crate::run_texts) for the texts with their delays.
     pub fn observe_case<D: Delays>(
         self,
         alloc: Global,
+        spare: &mut SpareStore,
         delays: &D,
         case: u64,
     ) -> Result<Observation, RunFault>
@@ -76,7 +87,7 @@ impl Trial<'_> {
             IsFault (with_delays (D.delays_of delays.now case) (subject self.entry))) }
     {
         let texts = varied_texts(alloc, delays, case, self.texts)?;
-        let plain = run_copied(alloc, &texts, self.outcomes, self.settings)?;
+        let plain = run_copied(alloc, spare, &texts, self.outcomes, self.settings)?;
         Ok(Observation::new(alloc, &plain)?)
     }
 
@@ -96,6 +107,7 @@ impl Trial<'_> {
         ensures ok { IfOk result (IsRun (subject self.entry)) }
         ensures err { IfErr result (IsFault (subject self.entry)) }
     {
-        run_copied(alloc, self.texts, self.outcomes, self.settings)
+        let spare = &mut SpareStore::new();
+        run_copied(alloc, spare, self.texts, self.outcomes, self.settings)
     }
 }
