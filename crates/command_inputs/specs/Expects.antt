@@ -27,7 +27,7 @@ use Rattle.command_texts.specs.declared.printed.Printed.{Printed}
 use Rattle.run_views.specs.Rows.{IsViewed}
 use Rattle.answered_calls.specs.Answered.{answered_calls}
 use Rattle.json_views.specs.Ends.{run_json}
-use Rattle.stop_reasons.specs.Reasons.{IsReason}
+use Rattle.run_views.specs.Reasons.{IsReason}
 use Rattle.command_inputs.specs.declared.expecting.UnmetLine.{UnmetLine}
 use Rattle.command_inputs.specs.declared.settings.RunOptions.{RunOptions}
 use Rattle.command_inputs.specs.declared.running.ToRun.{ToRun}

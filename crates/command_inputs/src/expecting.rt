@@ -11,9 +11,8 @@ use command_texts::{Printed, unmet_line, with_unmet};
 use expectations::{Unmet, expectations_of, first_unmet};
 use json_views::run_json;
 use posix_terms::{Bytes, PackedRow, Row, Transcript, Transcripts};
-use run_views::run_viewed;
+use run_views::{StoppedRun, run_viewed, stop_reason};
 use std::alloc::{AllocError, Global};
-use stop_reasons::{StoppedRun, stop_reason};
 use thread_scripts::parse;
 
 /// The line of a reply that is not as expected.

@@ -4,3 +4,5 @@ pub mod Order
 pub mod Rows
 pub mod Seen
 pub mod Waits
+pub mod Found
+pub mod Reasons

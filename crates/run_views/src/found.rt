@@ -1,6 +1,6 @@
 // What of a run and of its log says why it stopped.
 ghost use Rattle.std.specs.Prelude.{◌≡◌, option_copied};
-ghost use Rattle.stop_reasons.specs.Found.{has_come, outcomes_of, record_of, unanswered};
+ghost use Rattle.run_views.specs.Found.{has_come, outcomes_of, record_of, unanswered};
 
 use input_log::Record;
 use posix_terms::PackedRow;

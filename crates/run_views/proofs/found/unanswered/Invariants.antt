@@ -1,6 +1,6 @@
 use Rattle.std.proofs.Common.{◌≡◌, option_copied, drop, None}
-use Rattle.stop_reasons.specs.Found.{last_turn}
-use Rattle.stop_reasons.proofs.found.unanswered.Given as goal
+use Rattle.run_views.specs.Found.{last_turn}
+use Rattle.run_views.proofs.found.unanswered.Given as goal
 
 -- the last turn of the thread, from what was found and the turns from here on
 abbrev pub invariant-loop-row : goal.invariant-loop-row

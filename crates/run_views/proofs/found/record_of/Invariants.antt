@@ -1,6 +1,6 @@
 use Rattle.std.proofs.Common.{◌≡◌, drop}
-use Rattle.stop_reasons.specs.Found.{record_of}
-use Rattle.stop_reasons.proofs.found.record_of.Given as goal
+use Rattle.run_views.specs.Found.{record_of}
+use Rattle.run_views.proofs.found.record_of.Given as goal
 
 -- the record is among those from here on
 abbrev pub invariant-loop-record : goal.invariant-loop-record

@@ -1,20 +1,20 @@
 ghost use Rattle.std.specs.Prelude.{◌≡◌, ℕ, List, ◌++◌, IfOk, OnOk, is_some, option_copied};
 ghost use Rattle.std.specs.Prelude.{slice_get};
-ghost use Rattle.stop_reasons.specs.Found.{line_asked};
-ghost use Rattle.stop_reasons.specs.Reasons.{IsReason, IsStopReason, RecordSays, asked, asked_line};
-ghost use Rattle.stop_reasons.specs.Reasons.{blocked_words, end_words};
+ghost use Rattle.run_views.specs.Found.{line_asked};
+ghost use Rattle.run_views.specs.Reasons.{IsReason, IsStopReason, RecordSays, asked, asked_line};
+ghost use Rattle.run_views.specs.Reasons.{blocked_words, end_words};
 ghost use Rattle.std.specs.List.{flat_map};
-ghost use Rattle.stop_reasons.specs.Reasons.{found_words, known_line_words, line_words};
-ghost use Rattle.stop_reasons.specs.Reasons.{missing_line, no_record_words, record_words};
-ghost use Rattle.stop_reasons.specs.Reasons.{turn_words};
+ghost use Rattle.run_views.specs.Reasons.{found_words, known_line_words, line_words};
+ghost use Rattle.run_views.specs.Reasons.{missing_line, no_record_words, record_words};
+ghost use Rattle.run_views.specs.Reasons.{turn_words};
 
+use crate::asked::push_asked;
 use crate::found::{outcomes_of, record_of, unanswered};
 use answered_calls::{BlockedLine, lines_blocked, next_call_line};
 use call_machine::Stop;
 use command_texts::{push_number, push_record, push_word};
 use input_log::{LogFault, Record, decode_front};
 use posix_terms::{Bytes, PackedRow, Transcripts};
-use run_views::push_asked;
 use std::alloc::{AllocError, Global};
 
 /// A run as far as it came.

@@ -1,6 +1,6 @@
 use Rattle.std.proofs.Common.{append_assoc}
-use Rattle.stop_reasons.specs.Reasons.{record_words}
-use Rattle.stop_reasons.proofs.reason.push_record_line.Goals as goal
+use Rattle.run_views.specs.Reasons.{record_words}
+use Rattle.run_views.proofs.reason.push_record_line.Goals as goal
 
 pub returns : goal.returns
 unfolding record_words

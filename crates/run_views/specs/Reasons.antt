@@ -17,7 +17,7 @@ use Rattle.answered_calls.specs.declared.blocked.BlockedLine.{BlockedLine}
 use Rattle.command_texts.specs.LogTexts.{record_line}
 use Rattle.command_texts.specs.Transcripts.{◌+++◌}
 use Rattle.run_views.specs.Calls.{asked_text}
-use Rattle.stop_reasons.specs.Found.{line_asked, outcomes_of, record_of, unanswered}
+use Rattle.run_views.specs.Found.{line_asked, outcomes_of, record_of, unanswered}
 
 -- ---- what was asked
 

@@ -1,6 +1,6 @@
 use Rattle.std.proofs.Common.{append_assoc}
-use Rattle.stop_reasons.specs.Reasons.{no_record_words}
-use Rattle.stop_reasons.proofs.reason.push_no_record.Goals as goal
+use Rattle.run_views.specs.Reasons.{no_record_words}
+use Rattle.run_views.proofs.reason.push_no_record.Goals as goal
 
 pub returns : goal.returns
 unfolding no_record_words

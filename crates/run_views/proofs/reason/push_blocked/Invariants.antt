@@ -1,7 +1,7 @@
 use Rattle.std.proofs.Common.{◌≡◌, ◌++◌, drop}
 use Rattle.std.specs.List.{flat_map}
-use Rattle.stop_reasons.specs.Reasons.{blocked_words}
-use Rattle.stop_reasons.proofs.reason.push_blocked.Given as goal
+use Rattle.run_views.specs.Reasons.{blocked_words}
+use Rattle.run_views.proofs.reason.push_blocked.Given as goal
 
 abbrev pub invariant-loop-line : goal.invariant-loop-line
 invariant-loop-line l =

@@ -1,6 +1,6 @@
 use Rattle.std.proofs.Common.{◌≡◌, ◌+◌, ◌≤◌, drop}
-use Rattle.stop_reasons.specs.Found.{outcomes_of}
-use Rattle.stop_reasons.proofs.found.outcomes_of.Given as goal
+use Rattle.run_views.specs.Found.{outcomes_of}
+use Rattle.run_views.proofs.found.outcomes_of.Given as goal
 
 -- those so far, and those from here on
 abbrev pub invariant-loop-row : goal.invariant-loop-row
