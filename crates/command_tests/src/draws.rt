@@ -2,7 +2,7 @@ use crate::devices::{Device, Text, numbered, sources};
 use crate::logs::{SHORT_WRITE, THREE_RECORDS, WITH_CLOCKS};
 use crate::told::log_at;
 use commands::DEFAULTS;
-use draw_commands::{DrawOptions, Drawn, draw_log, draw_logs, draw_plain};
+use compare_and_draw::{DrawOptions, Drawn, draw_log, draw_logs, draw_plain};
 use posix_terms::Bytes;
 use serde_json::{Error, Value};
 use std::alloc::{AllocError, Global};

@@ -2,7 +2,7 @@ use crate::devices::{Sources, Text};
 use commands::{
     NoWatch, RunOptions, Source, View, plain_over, replay_over, replay_threads_over, show_over,
 };
-use compare_commands::{CompareOptions, compare_over};
+use compare_and_draw::{CompareOptions, compare_over};
 use posix_terms::Settings;
 use std::alloc::Global;
 use std::io;

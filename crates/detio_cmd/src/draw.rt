@@ -5,7 +5,7 @@ use crate::refusals::Host;
 use crate::writing::{Destination, to_file, write_printed};
 use clap::ArgMatches;
 use commands::{print, settings_of};
-use draw_commands::{DrawOptions, Drawn, draw_log, draw_logs, draw_plain};
+use compare_and_draw::{DrawOptions, Drawn, draw_log, draw_logs, draw_plain};
 use posix_terms::Bytes;
 use std::alloc::AllocError;
 

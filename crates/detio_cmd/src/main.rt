@@ -23,7 +23,7 @@ use commands::{
     LogTo, RunOptions, View, cannot_write, make_over, no_memory, plain_over, replay_over,
     replay_threads_over, settings_of, show_over, upgrade_over,
 };
-use compare_commands::{CompareOptions, compare_over};
+use compare_and_draw::{CompareOptions, compare_over};
 use draw::run_draw;
 use explore::{run_explore, run_minimise};
 use faults::run_faults;
