@@ -1,7 +1,15 @@
-ghost use Rattle.std.specs.Prelude.{◌≡◌, IfOk, OnErr};
+ghost use Rattle.std.specs.Prelude.{◌≡◌, ◌+◌, ◌<◌, ◌^◌, IfOk, None, OnErr};
 ghost use Rattle.host_doors.specs.Giving.{CanCount, GivesOne};
 ghost use Rattle.host_doors.specs.Opening.{HasDoor};
-ghost use Rattle.log_guard.specs.Guarding.{Finds, Guarded, MayGive, OpensSo, counted_with, law_of};
+ghost use Rattle.log_guard.specs.Guarding.{
+  Finds,
+  Guarded,
+  MayGive,
+  OpensSo,
+  Refuses,
+  counted_with,
+  law_of,
+};
 
 use crate::finder::LogFinder;
 use host_doors::{DoorStop, Opened, Outside};
@@ -35,6 +43,19 @@ impl<O, F> GuardedDoors<O, F> {
             within,
             finder,
             refused: 0,
+        }
+    }
+
+    // Refuses an opening of the log.
+    fn refuse<D>(&mut self) -> Opened<D>
+        requires { self.old.refused + 1 < 2 ^ 64 }
+        ensures refuses { Refuses self.old result.outcome self.new }
+        ensures no_door { result.door ≡ None }
+    {
+        self.refused += 1;
+        Opened {
+            outcome: Outcome::Fail(Errno::EBUSY),
+            door: None,
         }
     }
 }
@@ -78,11 +99,7 @@ impl<O: Outside, F: LogFinder> Outside for GuardedDoors<O, F> {
         ensures door { IfOk result (λ o. HasDoor o.outcome o.door) }
     {
         if self.opens_log(&request.call) {
-            self.refused += 1;
-            return Ok(Opened {
-                outcome: Outcome::Fail(Errno::EBUSY),
-                door: None,
-            });
+            return Ok(self.refuse());
         }
         self.within.open(thread, number, request)
     }
