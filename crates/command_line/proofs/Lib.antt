@@ -1,1 +1,2 @@
-pub mod Named
+mod Lists
+mod Views

@@ -1,1 +1,4 @@
+pub mod Commands
 pub mod Names
+pub mod Options
+pub mod Seeds

@@ -5,6 +5,7 @@ use crate::progress::{MinimiseLine, ProgressLine};
 use crate::refusals::Host;
 use crate::writing::{Destination, write_scripts};
 use clap::ArgMatches;
+use command_line::seeds_of;
 use commands::{cannot_write, settings_of};
 use explore_commands::{
     Allowed, ExploreOptions, MinimiseOptions, Sameness, Schedules, Scope, Shown, Workers,
@@ -161,13 +162,6 @@ fn options(matches: &ArgMatches<'_>) -> Option<ExploreOptions> {
         raw: matches.get_flag("raw"),
         shown: shown(matches),
     })
-}
-
-// The first seed of `A..B`, and the one after the last.
-fn seeds_of(text: &str) -> Option<(u64, u64)> {
-    let (first, end) = text.split_once("..")?;
-    let (first, end) = (first.parse::<u64>().ok()?, end.parse::<u64>().ok()?);
-    (first < end).then_some((first, end))
 }
 
 fn not_seeds(rt: &HostRuntime) -> u8 {

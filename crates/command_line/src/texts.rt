@@ -1,11 +1,17 @@
-ghost use Rattle.std.specs.Prelude.{◌≡◌, ◌∷◌, ◌++◌, [], IfOk, codes, map};
-ghost use Rattle.clap.specs.Words.{subcommand_names};
-ghost use Rattle.command_line.specs.Names.{all_names, name_of};
+// What help says of the program and of each subcommand.
 
-use clap::{Arg, ArgAction, Command, value_parser};
-use std::alloc::{AllocError, Global};
+// What the help of a subcommand says of it in one line, above its options and below them; and its usage, where that
+// is not made of its options.
+#[derive(Clone, Copy)]
+pub(crate) struct Texts {
+    pub about: &'static str,
+    pub long_about: &'static str,
+    pub after_help: &'static str,
+    pub usage: Option<&'static str>,
+}
 
-const ABOUT: &str = "Deterministic record and replay of calls on one table of descriptors.
+pub(crate) const ABOUT: &str =
+    "Deterministic record and replay of calls on one table of descriptors.
 
 Scripts of calls run against files, pipes and pairs of sockets in memory. The order of the calls
 comes from logical clocks alone, so a run prints the same each time, on every machine. What calls got
@@ -16,7 +22,7 @@ log; and scripts that fail are reduced to what the failure needs.
 
 detio run records a program as it is, and detio rerun runs it again by that log.";
 
-const AFTER_HELP: &str = "Example:
+pub(crate) const AFTER_HELP: &str = "Example:
   printf 'open /a rw create\\nwrite 0 x6869\\nlseek 0 0 set\\nread 0 9\\n' > hi.script
   detio plain hi.script
 
@@ -38,20 +44,7 @@ Exit statuses:
 The commands run scripts, but for run and rerun, which take programs and have statuses of their own.
 Each command's --help has its limits, its statuses and an example.";
 
-// A subcommand: what its help says of it in one line, above its options and below them; its usage, where that is not
-// made of its arguments; and its arguments.
-#[derive(Clone, Copy)]
-struct Subcommand {
-    name: &'static str,
-    about: &'static str,
-    long_about: &'static str,
-    after_help: &'static str,
-    usage: Option<&'static str>,
-    args: &'static [Argument],
-}
-
-const CHECK: Subcommand = Subcommand {
-    name: "check",
+pub(crate) const CHECK: Texts = Texts {
     about: "Says which lines of scripts are bad, and why, without running them",
     long_about: "Says which lines of scripts are bad, and why, without running them.
 
@@ -97,11 +90,9 @@ prints, with status 3
   bad.script:1:9: r, w or rw is expected, \"create\" stands there
   bad.script:2:7: a number or a register r0 to r15 is expected, the line ends here",
     usage: None,
-    args: &[JSON, CHECK_EXPECTATIONS, SCRIPTS_TO_CHECK, WHY],
 };
 
-const PLAIN: Subcommand = Subcommand {
-    name: "plain",
+pub(crate) const PLAIN: Texts = Texts {
     about: "Runs 1 to 16 scripts together and prints their transcripts",
     long_about: "Runs 1 to 16 scripts together and prints their transcripts.
 
@@ -219,13 +210,9 @@ prints
   1 0 1 open number 0
   end",
     usage: None,
-    args: &[
-        PATIENCE, DOOR_COST, TURNS, CALLS, BY_TURN, LANES, JSON, EXPECT, SCRIPTS, WHY,
-    ],
 };
 
-const EXPLORE: Subcommand = Subcommand {
-    name: "explore",
+pub(crate) const EXPLORE: Texts = Texts {
     about: "Runs scripts with many delays, to find a schedule that breaks them",
     long_about: "Runs scripts with many delays, to find a schedule that breaks them.
 
@@ -308,30 +295,9 @@ and
   detio plain --expect race/0.script race/1.script
 shows that run.",
     usage: None,
-    args: &[
-        SEEDS,
-        DELAYS,
-        MOST,
-        ONLY,
-        REACH,
-        RAW,
-        JSON,
-        FAILED,
-        ALLOW_STOPS,
-        ALLOW_BLOCKED,
-        JOBS,
-        WRITE,
-        FORCE_OF_SCRIPTS,
-        PATIENCE,
-        DOOR_COST,
-        OUTCOMES,
-        SCRIPTS,
-        WHY,
-    ],
 };
 
-const FAULTS: Subcommand = Subcommand {
-    name: "faults",
+pub(crate) const FAULTS: Texts = Texts {
     about: "Runs scripts by a log with one outcome replaced at a time",
     long_about: "Runs scripts by a log with one outcome replaced at a time, to find a failure that breaks them.
 
@@ -389,26 +355,9 @@ prints at last
   0 1 read short 1 end differs 0 1 read data 6869 -> read data 68 expected 0 6 count 2 count 1
   cases 4 failed 2 stopped 0 blocked 0",
     usage: None,
-    args: &[
-        REPLACED_LOG,
-        ERRORS,
-        SHORT,
-        THEN,
-        JSON,
-        FAILED,
-        ALLOW_STOPS,
-        ALLOW_BLOCKED,
-        CASE,
-        CASE_LOG,
-        FORCE_OF_CASE,
-        JOBS,
-        SCRIPTS,
-        WHY,
-    ],
 };
 
-const MINIMISE: Subcommand = Subcommand {
-    name: "minimise",
+pub(crate) const MINIMISE: Texts = Texts {
     about: "Reduces failing scripts to what the failure needs",
     long_about: "Reduces failing scripts to what the failure needs.
 
@@ -458,21 +407,9 @@ prints
   open /a w create excl
   #= not fail",
     usage: None,
-    args: &[
-        FOLDER,
-        FORCE_OF_SCRIPTS,
-        SCHEDULE,
-        SAME,
-        PATIENCE,
-        DOOR_COST,
-        OUTCOMES,
-        SCRIPTS,
-        WHY,
-    ],
 };
 
-const RECORD: Subcommand = Subcommand {
-    name: "record",
+pub(crate) const RECORD: Texts = Texts {
     about: "Runs 1 to 16 scripts as threads, with host files and loopback TCP, and records what comes from them",
     long_about: "Runs 1 to 16 scripts as threads, with host files and loopback TCP, and records what comes from them.
 
@@ -542,28 +479,9 @@ and then
   detio replay --log hi.log hi.script
 prints the same, and makes no file.",
     usage: None,
-    args: &[
-        RECORDED_LOG,
-        LOG_VERSION,
-        FORCE,
-        WAIT,
-        IN_TURN,
-        FOLLOW,
-        PATIENCE,
-        DOOR_COST,
-        TURNS,
-        CALLS,
-        BY_TURN,
-        LANES,
-        JSON,
-        EXPECT,
-        SCRIPTS,
-        WHY,
-    ],
 };
 
-const REPLAY: Subcommand = Subcommand {
-    name: "replay",
+pub(crate) const REPLAY: Texts = Texts {
     about: "Runs scripts by the log of what came from outside and prints their transcripts",
     long_about: "Runs scripts by the log of what came from outside and prints their transcripts.
 
@@ -619,22 +537,9 @@ prints
   0 1 105 open number 0
   end",
     usage: None,
-    args: &[
-        REPLAYED_LOG,
-        BY_THREADS,
-        TURNS,
-        CALLS,
-        BY_TURN,
-        LANES,
-        JSON,
-        EXPECT,
-        SCRIPTS,
-        WHY,
-    ],
 };
 
-const RUN: Subcommand = Subcommand {
-    name: "run",
+pub(crate) const RUN: Texts = Texts {
     about: "Runs a program as it is, and records what comes to it from outside",
     long_about: "Runs a program as it is, and records what comes to it from outside.
 
@@ -674,26 +579,9 @@ Exit statuses:
 
 prints the same time twice.",
     usage: Some("detio run [OPTIONS] -- <PROGRAM> [ARGS]..."),
-    args: &[
-        LOG_OF_RUN,
-        FORCE_OF_RUN,
-        THREADS,
-        MEM,
-        PASS,
-        SEED,
-        FAULT,
-        OVERLAP,
-        PARALLEL,
-        STRICT,
-        WAIT_FOREVER,
-        ENV,
-        PROGRAM,
-        WORDS,
-    ],
 };
 
-const RERUN: Subcommand = Subcommand {
-    name: "rerun",
+pub(crate) const RERUN: Texts = Texts {
     about: "Runs a program again by its log",
     long_about: "Runs a program again by its log.
 
@@ -728,11 +616,9 @@ prints twice
   a
   b",
     usage: Some("detio rerun [OPTIONS] --log <FILE> [-- <PROGRAM> [ARGS]...]"),
-    args: &[LOG_TO_RERUN, FORCE_OF_RERUN, STOP_AT, PROGRAM, WORDS],
 };
 
-const COMPARE: Subcommand = Subcommand {
-    name: "compare",
+pub(crate) const COMPARE: Texts = Texts {
     about: "Says whether two logs give the threads of the same scripts the same replies",
     long_about: "Says whether two logs give the threads of the same scripts the same replies.
 
@@ -786,11 +672,9 @@ prints
   > end
 since the file was there in one run, and not in the other.",
     usage: None,
-    args: &[ONE_LOG, WITH, ROWS, NO_TURNS, JSON, SCRIPTS, WHY],
 };
 
-const DRAW: Subcommand = Subcommand {
-    name: "draw",
+pub(crate) const DRAW: Texts = Texts {
     about: "Draws a run, or two under each other, as a page for a browser",
     long_about: "Draws a run, or two under each other, as a page for a browser.
 
@@ -833,21 +717,9 @@ prints
   run.html
   run.json",
     usage: None,
-    args: &[
-        PAGE,
-        TRACE,
-        FORCE_OF_PICTURES,
-        DRAWN_LOG,
-        SECOND_LOG,
-        PATIENCE,
-        DOOR_COST,
-        SCRIPTS,
-        WHY,
-    ],
 };
 
-const SHOW: Subcommand = Subcommand {
-    name: "show",
+pub(crate) const SHOW: Texts = Texts {
     about: "Prints a log",
     long_about: "Prints a log.
 
@@ -883,11 +755,9 @@ prints
   version 1 threads 1 patience 1000 door cost 100
   end 0",
     usage: None,
-    args: &[SHOWN_LOG, JSON, WHY],
 };
 
-const MAKE: Subcommand = Subcommand {
-    name: "make",
+pub(crate) const MAKE: Texts = Texts {
     about: "Makes a log of the text that detio show prints of it",
     long_about: "Makes a log of the text that detio show prints of it.
 
@@ -926,11 +796,9 @@ prints at last
   0 1 read fail EIO
   end",
     usage: None,
-    args: &[MADE_LOG, FORCE, TEXT, WHY],
 };
 
-const UPGRADE: Subcommand = Subcommand {
-    name: "upgrade",
+pub(crate) const UPGRADE: Texts = Texts {
     about: "Writes a log of version 1 in version 2, with the clocks that its scripts give it",
     long_about: "Writes a log of version 1 in version 2, with the clocks that its scripts give it.
 
@@ -977,769 +845,4 @@ prints at last
   0 1 105 open fail ENOENT
   end 2",
     usage: None,
-    args: &[OLD_LOG, NEW_LOG, FORCE_OF_UPGRADE, SCRIPTS, WHY],
 };
-
-// An argument of a subcommand: its name, what its help says, and its rules.
-#[derive(Clone, Copy)]
-struct Argument {
-    id: &'static str,
-    help: &'static str,
-    rules: &'static [Rule],
-}
-
-// What an argument is, and what it may be.
-#[derive(Clone, Copy)]
-enum Rule {
-    // an option that is there or not
-    Flag,
-    // an option with a value, which its help calls so
-    Named(&'static str),
-    // an option with three values, which its help calls so
-    Three(&'static [&'static str]),
-    // no option but a word at its place, which its help calls so
-    Place(&'static str),
-    // any number of words
-    Many,
-    // an option that may be given again and again
-    Repeated,
-    Required,
-    // one that is required where this other one is not given
-    RequiredWithout(&'static str),
-    // what it is where it is not given
-    Default(&'static str),
-    // what it is where it is given without a value
-    Without(&'static str),
-    // a number of 32 bits, of 16 bits or of a machine's word, from the first to the second
-    Whole(i64, i64),
-    Short(i64, i64),
-    Count(i64, i64),
-    // any number of 64 bits
-    Long,
-    // one of these words
-    Among(&'static [&'static str]),
-    // one that goes with this other one alone
-    Needs(&'static str),
-    // one that does not go with this other one
-    Excludes(&'static str),
-}
-
-const CHECK_EXPECTATIONS: Argument = Argument {
-    id: "expect",
-    help: "Also looks at what the lines #= of the scripts expect",
-    rules: &[Rule::Flag, Rule::Excludes("json")],
-};
-
-const SCRIPTS_TO_CHECK: Argument = Argument {
-    id: "script",
-    help: "The scripts to check, 1 to 16",
-    rules: &[Rule::Place("SCRIPT"), Rule::Many],
-};
-
-const SCRIPTS: Argument = Argument {
-    id: "script",
-    help: "The scripts to run, 1 to 16; - is standard input",
-    rules: &[Rule::Place("SCRIPT"), Rule::Many],
-};
-
-const WHY: Argument = Argument {
-    id: "why",
-    help: "Adds after a fault why the host refused, or why a run stopped",
-    rules: &[Rule::Flag],
-};
-
-const PATIENCE: Argument = Argument {
-    id: "patience",
-    help: "For how many turns a call may be blocked",
-    rules: &[
-        Rule::Named("N"),
-        Rule::Whole(1, 1_000_000),
-        Rule::Default("1000"),
-    ],
-};
-
-const DOOR_COST: Argument = Argument {
-    id: "door-cost",
-    help: "What a call that goes outside adds to the clock of its thread",
-    rules: &[
-        Rule::Named("N"),
-        Rule::Whole(1, 1_000_000),
-        Rule::Default("100"),
-    ],
-};
-
-const TURNS: Argument = Argument {
-    id: "turns",
-    help: "Prints the clock of each turn",
-    rules: &[Rule::Flag],
-};
-
-const CALLS: Argument = Argument {
-    id: "calls",
-    help: "Prints each call with what it was asked, as read 3 9 = data 6869",
-    rules: &[Rule::Flag],
-};
-
-const BY_TURN: Argument = Argument {
-    id: "by-turn",
-    help: "Prints the rows of all threads in the order of their turns",
-    rules: &[Rule::Flag],
-};
-
-const LANES: Argument = Argument {
-    id: "lanes",
-    help: "Prints the rows in the order of their turns, with a column for each thread",
-    rules: &[Rule::Flag],
-};
-
-const JSON: Argument = Argument {
-    id: "json",
-    help: "Prints an object of JSON on each line",
-    rules: &[Rule::Flag],
-};
-
-const EXPECT: Argument = Argument {
-    id: "expect",
-    help: "Holds each reply to the lines #= below its call, as #= fail ENOENT",
-    rules: &[Rule::Flag],
-};
-
-const SCHEDULE: Argument = Argument {
-    id: "schedule",
-    help: "Takes away lines of work alone: each other line and each thread stands",
-    rules: &[Rule::Flag],
-};
-
-const SAME: Argument = Argument {
-    id: "same",
-    help: "The reply that is not as expected has to stay the same, not only its error",
-    rules: &[Rule::Flag],
-};
-
-const SEEDS: Argument = Argument {
-    id: "seeds",
-    help: "The first seed, and the one after the last",
-    rules: &[Rule::Named("A..B"), Rule::Default("0..1000")],
-};
-
-const DELAYS: Argument = Argument {
-    id: "delays",
-    help: "All lists of at most D delays in place of seeds, 1 or 2",
-    rules: &[
-        Rule::Named("D"),
-        Rule::Whole(1, 2),
-        Rule::Without("1"),
-        Rule::Excludes("seeds"),
-    ],
-};
-
-const MOST: Argument = Argument {
-    id: "most",
-    help: "How many lists are run at most, with --delays",
-    rules: &[
-        Rule::Named("N"),
-        Rule::Long,
-        Rule::Default("100000"),
-        Rule::Needs("delays"),
-        Rule::Excludes("only"),
-        Rule::Excludes("seeds"),
-    ],
-};
-
-const ONLY: Argument = Argument {
-    id: "only",
-    help: "This seed alone, or the list with this number",
-    rules: &[Rule::Named("CASE"), Rule::Long, Rule::Excludes("seeds")],
-};
-
-const REACH: Argument = Argument {
-    id: "reach",
-    help: "The longest delay of a call, in units of its thread's clock",
-    rules: &[
-        Rule::Named("N"),
-        Rule::Whole(0, 1_000_000),
-        Rule::Default("20"),
-    ],
-};
-
-const JOBS: Argument = Argument {
-    id: "jobs",
-    help: "In how many threads runs are made, 1 to 64",
-    rules: &[Rule::Named("N"), Rule::Count(1, 64), Rule::Default("1")],
-};
-
-const WRITE: Argument = Argument {
-    id: "write",
-    help: "Writes the scripts of that case to new files DIR/0.script, DIR/1.script and so on",
-    rules: &[
-        Rule::Named("DIR"),
-        Rule::Needs("only"),
-        Rule::Excludes("seeds"),
-    ],
-};
-
-const OUTCOMES: Argument = Argument {
-    id: "log",
-    help: "The log whose outcomes the calls that go outside take; - is standard input",
-    rules: &[
-        Rule::Named("FILE"),
-        Rule::Excludes("patience"),
-        Rule::Excludes("door-cost"),
-    ],
-};
-
-const REPLACED_LOG: Argument = Argument {
-    id: "log",
-    help: "The log whose outcomes are replaced; - is standard input",
-    rules: &[Rule::Named("FILE"), Rule::Required],
-};
-
-const ERRORS: Argument = Argument {
-    id: "errors",
-    help: "These errors, for each record, as EIO,ENOENT",
-    rules: &[Rule::Named("E,E..")],
-};
-
-const SHORT: Argument = Argument {
-    id: "short",
-    help: "Also fewer bytes of reads and writes",
-    rules: &[Rule::Flag],
-};
-
-const THEN: Argument = Argument {
-    id: "then",
-    help: "What comes where the log does not answer",
-    rules: &[
-        Rule::Named("WHAT"),
-        Rule::Among(&["stop", "fail", "well"]),
-        Rule::Default("well"),
-    ],
-};
-
-const RAW: Argument = Argument {
-    id: "raw",
-    help: "Runs also differ where only the numbers of descriptors do",
-    rules: &[Rule::Flag],
-};
-
-const FAILED: Argument = Argument {
-    id: "failed",
-    help: "Only the lines of what is a fault",
-    rules: &[Rule::Flag],
-};
-
-const ALLOW_STOPS: Argument = Argument {
-    id: "allow-stops",
-    help: "Runs that stop, so that the rest was not looked at, are no fault",
-    rules: &[Rule::Flag],
-};
-
-const ALLOW_BLOCKED: Argument = Argument {
-    id: "allow-blocked",
-    help: "Calls that are blocked for good are no fault",
-    rules: &[Rule::Flag],
-};
-
-const CASE: Argument = Argument {
-    id: "only",
-    help: "The outcome to replace, and the error or count in its place, for --out",
-    rules: &[
-        Rule::Three(&["THREAD", "NUMBER", "ERROR"]),
-        Rule::Excludes("errors"),
-        Rule::Excludes("short"),
-        Rule::Needs("out"),
-    ],
-};
-
-const CASE_LOG: Argument = Argument {
-    id: "out",
-    help: "Writes the log of that case to this new file",
-    rules: &[Rule::Named("FILE"), Rule::Needs("only")],
-};
-
-const FOLDER: Argument = Argument {
-    id: "write",
-    help: "Writes what is left to new files DIR/0.script, DIR/1.script and so on",
-    rules: &[Rule::Named("DIR"), Rule::Required],
-};
-
-const RECORDED_LOG: Argument = Argument {
-    id: "log",
-    help: "The log to write",
-    rules: &[Rule::Named("FILE"), Rule::Required],
-};
-
-const LOG_VERSION: Argument = Argument {
-    id: "log-version",
-    help: "The version of the log, 1 or 2: version 2 has the clocks of turns",
-    rules: &[Rule::Named("N"), Rule::Short(1, 2), Rule::Default("2")],
-};
-
-const FORCE: Argument = Argument {
-    id: "force",
-    help: "Replaces the file at the log's path, a log or not",
-    rules: &[Rule::Flag],
-};
-
-const FORCE_OF_SCRIPTS: Argument = Argument {
-    id: "force",
-    help: "Replaces the files that are there, for --write",
-    rules: &[Rule::Flag, Rule::Needs("write")],
-};
-
-const FORCE_OF_CASE: Argument = Argument {
-    id: "force",
-    help: "Replaces the file that is there, for --out",
-    rules: &[Rule::Flag, Rule::Needs("out")],
-};
-
-const FORCE_OF_PICTURES: Argument = Argument {
-    id: "force",
-    help: "Replaces the files that are there",
-    rules: &[Rule::Flag],
-};
-
-const WAIT: Argument = Argument {
-    id: "wait",
-    help: "How long a call waits for a peer before others get a turn",
-    rules: &[
-        Rule::Named("MS"),
-        Rule::Whole(0, 60_000),
-        Rule::Default("10"),
-    ],
-};
-
-const IN_TURN: Argument = Argument {
-    id: "in-turn",
-    help: "Makes the calls to the outside in the order of their turns",
-    rules: &[Rule::Flag],
-};
-
-const FOLLOW: Argument = Argument {
-    id: "follow",
-    help: "Prints each row on standard error too, once its call has a reply",
-    rules: &[Rule::Flag],
-};
-
-const REPLAYED_LOG: Argument = Argument {
-    id: "log",
-    help: "The log to replay; - is standard input",
-    rules: &[Rule::Named("FILE"), Rule::Required],
-};
-
-const BY_THREADS: Argument = Argument {
-    id: "threads",
-    help: "Runs each script in a thread of its own",
-    rules: &[Rule::Flag],
-};
-
-const LOG_OF_RUN: Argument = Argument {
-    id: "log",
-    help: "The log to write (default: NAME.detio-log, NAME being the last part of PROGRAM)",
-    rules: &[Rule::Named("FILE")],
-};
-
-const FORCE_OF_RUN: Argument = Argument {
-    id: "force",
-    help: "Replaces a file at the log's path",
-    rules: &[Rule::Flag],
-};
-
-const THREADS: Argument = Argument {
-    id: "threads",
-    help: "How many threads may live at once, 1 to 16",
-    rules: &[Rule::Named("N"), Rule::Whole(1, 16), Rule::Default("16")],
-};
-
-const MEM: Argument = Argument {
-    id: "mem",
-    help: "Paths below it live in the run, in memory",
-    rules: &[Rule::Named("PREFIX")],
-};
-
-const PASS: Argument = Argument {
-    id: "pass",
-    help: "Paths below it go to the host and are not recorded",
-    rules: &[Rule::Named("PREFIX"), Rule::Repeated],
-};
-
-const SEED: Argument = Argument {
-    id: "seed",
-    help: "Works before calls and locks, for times that the seed says",
-    rules: &[Rule::Named("S"), Rule::Long],
-};
-
-const FAULT: Argument = Argument {
-    id: "fault",
-    help: "The K-th outcome from outside that can fail is EIO",
-    rules: &[Rule::Named("K"), Rule::Long],
-};
-
-const OVERLAP: Argument = Argument {
-    id: "overlap",
-    help: "Lets calls to the outside overlap",
-    rules: &[Rule::Flag],
-};
-
-const PARALLEL: Argument = Argument {
-    id: "parallel",
-    help: "Lets threads compute at the same time",
-    rules: &[Rule::Flag],
-};
-
-const STRICT: Argument = Argument {
-    id: "strict",
-    help: "Ends the run where something is refused or not recorded",
-    rules: &[Rule::Flag],
-};
-
-const WAIT_FOREVER: Argument = Argument {
-    id: "wait-forever",
-    help: "Does not end a run in which each thread waits for another",
-    rules: &[Rule::Flag],
-};
-
-const STOP_AT: Argument = Argument {
-    id: "stop-at",
-    help: "Stops the process at this call of a thread, for a debugger",
-    rules: &[Rule::Named("THREAD,CALL")],
-};
-
-const ENV: Argument = Argument {
-    id: "env",
-    help: "An environment variable that the program has; it has no others then",
-    rules: &[Rule::Named("NAME"), Rule::Repeated],
-};
-
-// It is not required, nor is the log of a rerun: the launcher reads these words, and this program answers all alike.
-const PROGRAM: Argument = Argument {
-    id: "program",
-    help: "The program, by its path or its name",
-    rules: &[Rule::Place("PROGRAM")],
-};
-
-const WORDS: Argument = Argument {
-    id: "words",
-    help: "The words that the program is given",
-    rules: &[Rule::Place("ARGS"), Rule::Many],
-};
-
-const LOG_TO_RERUN: Argument = Argument {
-    id: "log",
-    help: "The log to run the program by",
-    rules: &[Rule::Named("FILE")],
-};
-
-const FORCE_OF_RERUN: Argument = Argument {
-    id: "force",
-    help: "Goes on where the program, its libraries or its words differ from the log's",
-    rules: &[Rule::Flag],
-};
-
-const ONE_LOG: Argument = Argument {
-    id: "log",
-    help: "One log to replay; - is standard input",
-    rules: &[Rule::Named("FILE"), Rule::Required],
-};
-
-const WITH: Argument = Argument {
-    id: "with",
-    help: "The log to compare it with",
-    rules: &[Rule::Named("FILE"), Rule::Required],
-};
-
-const ROWS: Argument = Argument {
-    id: "rows",
-    help: "Prints the rows that differ, those before, and how each replay ended",
-    rules: &[Rule::Flag],
-};
-
-const NO_TURNS: Argument = Argument {
-    id: "no-turns",
-    help: "Compares calls and replies alone, whatever the clocks of their turns",
-    rules: &[Rule::Flag],
-};
-
-const PAGE: Argument = Argument {
-    id: "out",
-    help: "The page to write, a new file",
-    rules: &[Rule::Named("FILE"), Rule::RequiredWithout("trace")],
-};
-
-const TRACE: Argument = Argument {
-    id: "trace",
-    help: "The trace of the first run to write, a new file",
-    rules: &[Rule::Named("FILE")],
-};
-
-const DRAWN_LOG: Argument = Argument {
-    id: "log",
-    help: "The log to replay; - is standard input",
-    rules: &[
-        Rule::Named("FILE"),
-        Rule::Excludes("patience"),
-        Rule::Excludes("door-cost"),
-    ],
-};
-
-const SECOND_LOG: Argument = Argument {
-    id: "with",
-    help: "A second log, whose replay is drawn under that of the first",
-    rules: &[
-        Rule::Named("FILE"),
-        Rule::Needs("log"),
-        Rule::Excludes("patience"),
-        Rule::Excludes("door-cost"),
-    ],
-};
-
-const SHOWN_LOG: Argument = Argument {
-    id: "log",
-    help: "The log to print; - is standard input",
-    rules: &[Rule::Named("FILE"), Rule::Required],
-};
-
-const MADE_LOG: Argument = Argument {
-    id: "out",
-    help: "The log to write",
-    rules: &[Rule::Named("FILE"), Rule::Required],
-};
-
-const TEXT: Argument = Argument {
-    id: "text",
-    help: "The text of the log; - is standard input too",
-    rules: &[Rule::Place("TEXT"), Rule::Default("/dev/stdin")],
-};
-
-const OLD_LOG: Argument = Argument {
-    id: "log",
-    help: "The log of version 1; - is standard input",
-    rules: &[Rule::Named("FILE"), Rule::Required],
-};
-
-const NEW_LOG: Argument = Argument {
-    id: "out",
-    help: "The log of version 2 to write",
-    rules: &[Rule::Named("FILE"), Rule::Required],
-};
-
-const FORCE_OF_UPGRADE: Argument = Argument {
-    id: "force",
-    help: "Replaces the file at the new log's path, a log or not",
-    rules: &[Rule::Flag],
-};
-
-/// The command line of the program.
-pub fn command<'a>(alloc: Global) -> Result<Command<'a>, AllocError>
-    ensures { IfOk result (λ c. subcommand_names c ≡ all_names) }
-{
-    let command = with_runs(alloc, program(alloc)?)?;
-    let command = with_schedules(alloc, command)?;
-    let command = with_failures(alloc, command)?;
-    let command = with_records(alloc, command)?;
-    let command = with_replays(alloc, command)?;
-    let command = with_programs(alloc, command)?;
-    let command = with_pictures(alloc, command)?;
-    with_logs(alloc, command)
-}
-
-// The subcommands stand in small tables, since the proof of a function that names a large one is dear.
-const RUNS: &[Subcommand] = &[CHECK, PLAIN];
-
-// The program with the subcommands that look at scripts, or run them by themselves.
-fn with_runs<'a>(alloc: Global, command: Command<'a>) -> Result<Command<'a>, AllocError>
-    ensures { IfOk result (λ c. subcommand_names c ≡ subcommand_names command.entry
-        ++ codes "check" ∷ codes "plain" ∷ []) }
-{
-    with_subcommands(alloc, command, RUNS)
-}
-
-const SCHEDULES: &[Subcommand] = &[EXPLORE];
-
-// And with the one that runs scripts in many schedules.
-fn with_schedules<'a>(alloc: Global, command: Command<'a>) -> Result<Command<'a>, AllocError>
-    ensures { IfOk result (λ c. subcommand_names c ≡ subcommand_names command.entry
-        ++ codes "explore" ∷ []) }
-{
-    with_subcommands(alloc, command, SCHEDULES)
-}
-
-const FAILURES: &[Subcommand] = &[FAULTS, MINIMISE];
-
-// And with those that make failures, or reduce the scripts of one.
-fn with_failures<'a>(alloc: Global, command: Command<'a>) -> Result<Command<'a>, AllocError>
-    ensures { IfOk result (λ c. subcommand_names c ≡ subcommand_names command.entry
-        ++ codes "faults" ∷ codes "minimise" ∷ []) }
-{
-    with_subcommands(alloc, command, FAILURES)
-}
-
-const RECORDS: &[Subcommand] = &[RECORD];
-
-// And with the one that records what comes from outside.
-fn with_records<'a>(alloc: Global, command: Command<'a>) -> Result<Command<'a>, AllocError>
-    ensures { IfOk result (λ c. subcommand_names c ≡ subcommand_names command.entry
-        ++ codes "record" ∷ []) }
-{
-    with_subcommands(alloc, command, RECORDS)
-}
-
-const REPLAYS: &[Subcommand] = &[REPLAY];
-
-// And with the one that replays what was recorded.
-fn with_replays<'a>(alloc: Global, command: Command<'a>) -> Result<Command<'a>, AllocError>
-    ensures { IfOk result (λ c. subcommand_names c ≡ subcommand_names command.entry
-        ++ codes "replay" ∷ []) }
-{
-    with_subcommands(alloc, command, REPLAYS)
-}
-
-const PROGRAMS: &[Subcommand] = &[RUN, RERUN];
-
-// And with those that record and replay a program as it is.
-fn with_programs<'a>(alloc: Global, command: Command<'a>) -> Result<Command<'a>, AllocError>
-    ensures { IfOk result (λ c. subcommand_names c ≡ subcommand_names command.entry
-        ++ codes "run" ∷ codes "rerun" ∷ []) }
-{
-    with_subcommands(alloc, command, PROGRAMS)
-}
-
-const PICTURES: &[Subcommand] = &[COMPARE, DRAW];
-
-// And with those that show what the threads of runs saw.
-fn with_pictures<'a>(alloc: Global, command: Command<'a>) -> Result<Command<'a>, AllocError>
-    ensures { IfOk result (λ c. subcommand_names c ≡ subcommand_names command.entry
-        ++ codes "compare" ∷ codes "draw" ∷ []) }
-{
-    with_subcommands(alloc, command, PICTURES)
-}
-
-const LOGS: &[Subcommand] = &[SHOW, MAKE, UPGRADE];
-
-// And with those that turn a log into something else.
-fn with_logs<'a>(alloc: Global, command: Command<'a>) -> Result<Command<'a>, AllocError>
-    ensures { IfOk result (λ c. subcommand_names c ≡ subcommand_names command.entry
-        ++ codes "show" ∷ codes "make" ∷ codes "upgrade" ∷ []) }
-{
-    with_subcommands(alloc, command, LOGS)
-}
-
-// The program with no subcommand.
-fn program<'a>(alloc: Global) -> Result<Command<'a>, AllocError>
-    ensures { IfOk result (λ c. subcommand_names c ≡ []) }
-{
-    wants_subcommand(Command::new(alloc, "detio"))
-        .version("0.19.0")
-        .about(ABOUT)
-        .after_help(AFTER_HELP)
-        .bin_name("detio")
-}
-
-fn wants_subcommand(command: Command<'_>) -> Command<'_>
-    ensures { subcommand_names result ≡ subcommand_names command.entry }
-{
-    command
-        .subcommand_required(true)
-        .arg_required_else_help(true)
-}
-
-// The command with these subcommands.
-fn with_subcommands<'a>(
-    alloc: Global,
-    command: Command<'a>,
-    subcommands: &[Subcommand],
-) -> Result<Command<'a>, AllocError>
-    ensures { IfOk result (λ c. subcommand_names c
-        ≡ subcommand_names command.entry ++ map (λ s. s.name.now) subcommands.now) }
-{
-    let mut command = command;
-    for subcommand in subcommands {
-        command = with_subcommand(command, built(alloc, *subcommand)?)?;
-    }
-    Ok(command)
-}
-
-// The command with one more subcommand.
-#[tactic(auto, using(crate::proofs::Named::one_more))]
-fn with_subcommand<'a>(
-    command: Command<'a>,
-    subcommand: Command<'a>,
-) -> Result<Command<'a>, AllocError>
-    ensures { IfOk result (λ c. subcommand_names c
-        ≡ subcommand_names command.entry ++ name_of subcommand.entry ∷ []) }
-{
-    command.subcommand(subcommand)
-}
-
-fn built<'a>(alloc: Global, given: Subcommand) -> Result<Command<'a>, AllocError>
-    ensures { IfOk result (λ c. name_of c ≡ given.name.now) }
-{
-    let args = args_of(alloc, given.args)?;
-    with_args(with_usage(described(alloc, given), given.usage), args)
-}
-
-// A subcommand with its help and no argument.
-fn described<'a>(alloc: Global, given: Subcommand) -> Command<'a>
-    ensures { name_of result ≡ given.name.now }
-{
-    Command::new(alloc, given.name)
-        .about(given.about)
-        .long_about(given.long_about)
-        .after_help(given.after_help)
-}
-
-fn with_usage<'a>(command: Command<'a>, usage: Option<&'static str>) -> Command<'a>
-    ensures { name_of result ≡ name_of command.entry }
-{
-    match usage {
-        Some(usage) => command.override_usage(usage),
-        None => command,
-    }
-}
-
-// The command with these arguments.
-#[tactic(auto, using(crate::proofs::Named::kept_in_turn))]
-fn with_args<'a>(command: Command<'a>, args: Vec<Arg<'a>>) -> Result<Command<'a>, AllocError>
-    ensures { IfOk result (λ c. name_of c ≡ name_of command.entry) }
-{
-    command.args(args)
-}
-
-fn args_of<'a>(alloc: Global, arguments: &[Argument]) -> Result<Vec<Arg<'a>>, AllocError> {
-    let mut args = Vec::new(alloc);
-    for argument in arguments {
-        args.push(arg_of(alloc, *argument)?)?;
-    }
-    Ok(args)
-}
-
-fn arg_of<'a>(alloc: Global, argument: Argument) -> Result<Arg<'a>, AllocError> {
-    let mut arg = Arg::new(alloc, argument.id).help(argument.help);
-    for rule in argument.rules {
-        arg = ruled(arg, argument.id, *rule)?;
-    }
-    Ok(arg)
-}
-
-// The argument of this name under one more rule.
-fn ruled<'a>(arg: Arg<'a>, id: &'static str, rule: Rule) -> Result<Arg<'a>, AllocError> {
-    match rule {
-        Rule::Flag => Ok(arg.long(id).action(ArgAction::SetTrue)),
-        Rule::Named(value) => Ok(arg.long(id).value_name(value)),
-        Rule::Three(values) => Ok(arg.long(id).num_args(3).value_names(values)),
-        Rule::Place(value) => Ok(arg.value_name(value)),
-        Rule::Many => Ok(arg.action(ArgAction::Append).num_args(0..)),
-        Rule::Repeated => Ok(arg.action(ArgAction::Append)),
-        Rule::Required => Ok(arg.required(true)),
-        Rule::RequiredWithout(other) => arg.required_unless_present(other),
-        Rule::Default(value) => Ok(arg.default_value(value)),
-        Rule::Without(value) => Ok(arg.num_args(0..=1).default_missing_value(value)),
-        Rule::Whole(least, most) => Ok(arg.value_parser(value_parser!(u32).range(least..=most))),
-        Rule::Short(least, most) => Ok(arg.value_parser(value_parser!(u16).range(least..=most))),
-        Rule::Count(least, most) => Ok(arg.value_parser(value_parser!(usize).range(least..=most))),
-        Rule::Long => Ok(arg.value_parser(value_parser!(u64))),
-        Rule::Among(words) => Ok(arg.value_parser(words)),
-        Rule::Needs(other) => arg.requires_arg(other),
-        Rule::Excludes(other) => arg.conflicts_with(other),
-    }
-}
