@@ -2,7 +2,7 @@
 import os
 import re
 from collections.abc import Iterator
-from dataclasses import dataclass
+from dataclasses import dataclass, replace
 
 HEAD = re.compile(
     r'(?P<indent> *)(?:pub(?:\([^)]*\))? )?(?:const )?(?:unsafe )?(?:extern "C" )?fn (?P<name>\w+)'
@@ -158,6 +158,88 @@ class Edit:
         texts.update(made)
         return True
 
+    def alone(self) -> "Edit":
+        """The edit as it goes into a copy of the crate by itself."""
+        return self
+
+
+class Twin(Edit):
+    """An edit of a function that another edit of its batch changes already: it changes a copy of that function, which
+    stands after it, has a name of its own, and is called by nobody."""
+
+    def __init__(self, edit: Edit, number: int, folder: str) -> None:
+        function = edit.functions()[0]
+        self.edit, self.folder, self.function = edit, folder, function
+        self.name, self.pairs, self.refused_by = edit.name, edit.pairs, edit.refused_by
+        self.twin = replace(function, name=f"{function.name}_twin{number}")
+        self.places = [self.twin]
+
+    def alone(self) -> Edit:
+        return self.edit
+
+    def apply(self, texts: Texts, folder: str) -> bool:
+        path = self.pairs[0][0]
+        source = read(folder, path)
+        copy = self.copy(source)
+        text = texts.get(path, source)
+        found = self.found(text)
+        if copy is None or found is None:
+            return False
+        texts[path] = f"{text[:found.last]}\n\n{copy}{text[found.last:]}"
+        texts.update(self.proof())
+        return True
+
+    def proof(self) -> Texts:
+        """The files of the function's own proof, for the copy: they name the function in the path of their imports."""
+        at, to = proof_of(self.function), proof_of(self.twin)
+        found: Texts = {}
+        for name in os.listdir(f"{self.folder}/{at}") if os.path.isdir(f"{self.folder}/{at}") else []:
+            text = read(self.folder, f"{at}/{name}")
+            found[f"{to}/{name}"] = text.replace(f".{dotted(at)}.", f".{dotted(to)}.")
+        return found
+
+    def found(self, text: str) -> Found | None:
+        """The function in this text of its file."""
+        for it in functions(text):
+            if place(self.pairs[0][0], text, text[it.first : it.last]) == self.function:
+                return it
+        return None
+
+    def copy(self, source: str) -> str | None:
+        """The copy of the function with the edit in it, or None where there can be none: of a method of a trait, of a
+        function whose proof is written whole, and of one that stands in a cycle of calls."""
+        found = self.found(source)
+        is_whole = os.path.exists(f"{self.folder}/{proof_of(self.function)}/Proof.antt")
+        if not found or len(self.function.owner) > 1 or is_whole:
+            return None
+        text = source[start_of(source, found.first) : found.last]
+        if re.match(r"(pub )?trait\b", found.owner) or "#[cycle" in text:
+            return None
+        for path, old, new in self.pairs:
+            if path != self.pairs[0][0] or text.count(old) != 1:
+                return None
+            text = text.replace(old, new)
+        return re.sub(rf"\bfn {self.function.name}\b", f"fn {self.twin.name}", text, count=1)
+
+
+def start_of(text: str, first: int) -> int:
+    """Where the comment and the attributes begin that stand above the function that starts here."""
+    while True:
+        before = text.rfind("\n", 0, max(first - 1, 0)) + 1
+        if before >= first or re.search(r"(^|[{};])\s*$", text[before:first]):
+            return first
+        first = before
+
+
+def proof_of(function: Function) -> str:
+    """The folder of the files that a function's proof may have."""
+    return "/".join(["proofs", *function.module.split("::"), *function.owner[-1:], function.name])
+
+
+def dotted(folder: str) -> str:
+    """A folder of proofs as imports name it."""
+    return folder.replace("/", ".")
+
 
 def read(folder: str, path: str) -> str:
     with open(f"{folder}/{path}", encoding="utf-8") as file:
@@ -166,6 +248,7 @@ def read(folder: str, path: str) -> str:
 
 def write(folder: str, texts: Texts) -> None:
     for path, text in texts.items():
+        os.makedirs(os.path.dirname(f"{folder}/{path}"), exist_ok=True)
         with open(f"{folder}/{path}", "w", encoding="utf-8") as file:
             file.write(text)
 
@@ -178,7 +261,8 @@ def names_of(folder: str) -> list[str]:
 
 
 def batches(edits: list[Edit], folder: str) -> Iterator[tuple[list[Edit], Texts]]:
-    """Groups edits of different functions, and yields them with the texts that they make."""
+    """Groups edits of different functions, and yields them with the texts that they make. A second edit of a function
+    changes a copy of it, where there can be one."""
     left = list(edits)
     while left:
         texts: Texts = {}
@@ -191,6 +275,11 @@ def batches(edits: list[Edit], folder: str) -> Iterator[tuple[list[Edit], Texts]
         if not taken:
             return  # what is left cannot be applied
         left = [it for it in left if it not in taken]
+        # (after the others, whose old texts may stand in a copy too)
+        lone = [it for it in left if len(it.functions()) == 1 and it.apply({}, folder)]
+        taken += [it for at, one in enumerate(lone) if (it := Twin(one, at, folder)).apply(texts, folder)]
+        made = [it.alone() for it in taken]
+        left = [it for it in left if it not in made]
         yield taken, texts
 
 

@@ -51,7 +51,8 @@ def paths(given: list[Edit]) -> list[str]:
 def lone(crate: str, folder: str, it: Edit, only: list[str]) -> Trial:
     """The trial of one edit."""
     texts: Texts = {}
-    return Trial(crate, folder, [it], texts if it.apply(texts, folder) else {}, only)
+    one = it.alone()
+    return Trial(crate, folder, [one], texts if one.apply(texts, folder) else {}, only)
 
 
 def first_trials(crate: str, folder: str, given: list[Edit]) -> list[Trial]:
@@ -60,7 +61,7 @@ def first_trials(crate: str, folder: str, given: list[Edit]) -> list[Trial]:
     found = [lone(crate, folder, it, it.refused_by) for it in given if it not in together]
     for taken, texts in edits.batches(together, folder):
         found.append(Trial(crate, folder, taken, texts, paths(taken)))
-    tried = [it for trial in found for it in trial.given]
+    tried = [it.alone() for trial in found for it in trial.given]
     return found + [lone(crate, folder, it, []) for it in given if it not in tried]
 
 
@@ -88,8 +89,8 @@ def judge(trial: Trial, status: int, said: str) -> Judged:
     unknown = [path for path in trial.only if status == 2 and f"`{path}`" in said]
     if unknown:
         # (a path that names no function, or several: those that stand there are tried on)
-        others = [it for it in trial.given if not set(unknown) & {*paths([it]), *it.refused_by}]
-        rest = [it for it in trial.given if it not in others]
+        others = [it.alone() for it in trial.given if not set(unknown) & {*paths([it]), *it.refused_by}]
+        rest = [it for it in trial.given if it.alone() not in others]
         found.more.extend(lone(trial.crate, trial.folder, it, []) for it in rest)
         for taken, texts in edits.batches(others, trial.folder):
             found.more.append(Trial(trial.crate, trial.folder, taken, texts, paths(taken)))
@@ -101,7 +102,7 @@ def judge(trial: Trial, status: int, said: str) -> Judged:
         elif not trial.texts:
             found.failed.append((trial.name_of(it), "an old text of it does not stand there once"))
         elif trial.only:
-            only = [] if trial.is_lone() else paths([it])
+            only = [] if trial.is_lone() else paths([it.alone()])
             found.more.append(lone(trial.crate, trial.folder, it, only))
         else:
             why = edits.unread(said, trial.texts) or said.rstrip("\n").rpartition("\n")[2]

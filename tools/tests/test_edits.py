@@ -107,6 +107,47 @@ class Edits(unittest.TestCase):
         changed = SOURCE.replace("Some(by)", "None").replace("    2\n", "    3\n")
         self.assertEqual(texts, {"src/lock.rt": changed})
 
+    def test_a_second_edit_goes_into_a_copy(self) -> None:
+        given = [self.edit("two", TWO), self.edit("four", [("src/lock.rt", "    2", "    4")])]
+        ((taken, texts),) = edits.batches(given, self.folder)
+        changed = "    3\n}\n\npub(crate) const fn two_twin0() -> u8 {\n    4\n}\n"
+        self.assertEqual(texts, {"src/lock.rt": SOURCE.replace("    2\n}\n", changed)})
+        self.assertEqual([edits.path_of(it.functions()[0]) for it in taken], ["lock::two", "lock::two_twin0"])
+        self.assertEqual([it.alone() for it in taken], given)
+
+    def test_a_copy_has_its_attributes(self) -> None:
+        marked = "/// Two.\n#[tactic(\n    auto\n)]\n"
+        edits.write(self.folder, {"src/lock.rt": SOURCE.replace("pub(crate) const", f"{marked}pub(crate) const")})
+        given = [self.edit("two", TWO), self.edit("four", [("src/lock.rt", "    2", "    4")])]
+        ((_, texts),) = edits.batches(given, self.folder)
+        self.assertIn(f"}}\n\n{marked}pub(crate) const fn two_twin0()", texts["src/lock.rt"])
+
+    def test_a_copy_has_a_proof_too(self) -> None:
+        goal = "use Rattle.low.proofs.lock.two.Goals as goal\n\npub two : goal.two\n"
+        edits.write(self.folder, {"proofs/lock/two/Answers.antt": goal})
+        given = [self.edit("two", TWO), self.edit("four", [("src/lock.rt", "    2", "    4")])]
+        ((_, texts),) = edits.batches(given, self.folder)
+        self.assertEqual(texts["proofs/lock/two_twin0/Answers.antt"], goal.replace("lock.two.", "lock.two_twin0."))
+
+    def names_in_batches(self, given: list[Edit]) -> list[list[str]]:
+        return [[it.name for it in taken] for taken, _ in edits.batches(given, self.folder)]
+
+    def test_what_has_no_copy(self) -> None:
+        given = [self.edit("two", TWO), self.edit("four", [("src/lock.rt", "    2", "    4")])]
+        edits.write(self.folder, {"proofs/lock/two/Proof.antt": ""})
+        self.assertEqual(self.names_in_batches(given), [["two"], ["four"]])
+        os.remove(f"{self.folder}/proofs/lock/two/Proof.antt")
+        edits.write(self.folder, {"src/lock.rt": SOURCE.replace("pub(crate) const", "#[cycle(two)]\npub(crate) const")})
+        self.assertEqual(self.names_in_batches(given), [["two"], ["four"]])
+        trait = "pub trait Two {\n    fn two() -> u8 {\n        2\n    }\n}\n"
+        edits.write(self.folder, {"src/lock.rt": trait})
+        given = [self.edit("two", TWO), self.edit("four", [("src/lock.rt", "    2", "    4")])]
+        self.assertEqual(self.names_in_batches(given), [["two"], ["four"]])
+
+    def test_an_old_text_that_stands_twice_has_no_copy(self) -> None:
+        edits.write(self.folder, {"src/lock.rt": SOURCE + "// again: lock.left()\n"})
+        self.assertEqual(self.names_in_batches([self.edit("left", LEFT), self.edit("two", TWO)]), [["two"]])
+
     def test_what_cannot_be_applied(self) -> None:
         given = [self.edit("lacking", [("src/lock.rt", "not there", "")]), self.edit("two", TWO)]
         found = [[it.name for it in taken] for taken, _ in edits.batches(given, self.folder)]

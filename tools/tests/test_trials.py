@@ -89,6 +89,18 @@ class Trials(unittest.TestCase):
         self.assertEqual(refused["lib/one-is-seven"], f"lib::one: {edits.NO_FIT}")
         self.assertEqual(self.calls[2:], [["one"]])
 
+    def test_a_twin_that_is_not_refused_is_tried_alone(self) -> None:
+        edits.write(self.folder, {"must-fail/one-is-eight.edit": "file: src/lib.rt\nold:     1\nnew:     8\n"})
+        refused, failed = self.tried(dict.fromkeys(("one", "one_twin0", "two", "three", "law"), self.GOAL))
+        self.assertEqual(self.calls, [["law"], ["one", "three", "two", "one_twin0"], ["one"], []])
+        self.assertEqual(refused["lib/one-is-seven"], "lib::one_twin0: `returns`")
+        self.assertEqual(list(failed), ["lib/one-is-eight"])
+
+    def test_a_twin_is_tried_again_as_the_function(self) -> None:
+        edits.write(self.folder, {"must-fail/one-is-eight.edit": "file: src/lib.rt\nold:     1\nnew:     8\n"})
+        refused, _ = self.tried(dict.fromkeys(("one", "two", "three", "law"), self.GOAL))
+        self.assertEqual(refused["lib/one-is-seven"], "lib::one: `returns`")
+
     def test_what_lies_below_is_not_proved(self) -> None:
         edits.write(self.folder, {"said": "rt: low NOT PROVED\n0 passed, 1 failed\n"})
         refused, failed = self.tried(dict.fromkeys(("one", "two", "three", "law"), self.GOAL), f"{self.folder}/said")
