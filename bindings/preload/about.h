@@ -20,6 +20,8 @@ void add_entry(entries *, const char *key, const char *value);
 const char *next_value(const entries *, const char *key, size_t *at);
 const char *first_value(const entries *, const char *key);
 
+/* The record of version 2 at this place of a log, if it is whole: its length, or 0. */
+size_t record_at(const uint8_t *log, size_t length, size_t at);
 /* The entries in a log: whether they are there as a whole. */
 bool about_in_log(const uint8_t *log, size_t length, entries *);
 
@@ -27,5 +29,12 @@ bool about_in_log(const uint8_t *log, size_t length, entries *);
  * and
  * `*other` are the entries there, or NULL after the last. Variables may stand in another order. */
 bool first_difference(const entries *, const entries *, const char *const keys[], const char **one, const char **other);
+
+/* log.c: the entries that were handed over for this start alone, and those of the program. */
+const entries *about_start(void);
+const entries *about_program(void);
+/* For the program that this one goes on as: where in the log its records begin; and what is open. */
+void add_earlier(entries *);
+void add_kept(entries *);
 
 #endif

@@ -64,7 +64,7 @@ EXPORT int timer_create(clockid_t clock, struct sigevent *then, timer_t *to) {
   struct sigevent event;
   int id = 0;
   if (then && then->sigev_notify != SIGEV_SIGNAL && then->sigev_notify != SIGEV_NONE) {
-    uncovered("timer_create", "timer_create for a thread is not covered: refused, in a rerun too");
+    uncovered("timer_create", "timer_create that begins threads is not covered: refused, in a rerun too");
     return errno = ENOTSUP, -1;
   }
   memset(&event, 0, sizeof event);

@@ -2,11 +2,14 @@
 #define _GNU_SOURCE
 #include "preload.h"
 
+#include "about.h"
+
 #include <stdio.h>
 #include <stdlib.h>
 #include <string.h>
 #include <sys/auxv.h>
 #include <sys/syscall.h>
+#include <unistd.h>
 
 /* One line on standard error, which begins `detio: `. */
 static void say_line(const char *format, va_list given) {
@@ -72,22 +75,53 @@ static void fix_chance(void) {
   if (there) memcpy(there, (uint64_t[]){first, ~first}, 16);
 }
 
+/* A run is one process: what it starts does not have our variables. A program that goes on as another may preload
+ * libraries for that. The C library is not asked, since a shell has functions of its own by these names. */
+static bool is_variable(const char *entry, const char *name) {
+  size_t length = strlen(name);
+  return !strncmp(entry, name, length) && entry[length] == '=';
+}
+static void hide_variables(void) {
+  size_t at = 0, kept = 0;
+  const char *preloads = NULL;
+  for (const char *it; run.goes_on && (it = next_value(about_program(), "variable", &at));)
+    if (is_variable(it, "LD_PRELOAD")) preloads = it;
+  for (char **it = environ; *it; it++) {
+    bool loads = is_variable(*it, "LD_PRELOAD");
+    if (loads && preloads) environ[kept++] = (char *)preloads;
+    else if (!loads && !is_variable(*it, "DETIO_RUN") && !is_variable(*it, "DETIO_PAD")) environ[kept++] = *it;
+  }
+  environ[kept] = NULL;
+}
+
+/* After the destructors of all libraries: what was registered first is called last. */
+int __cxa_atexit(void (*)(void *), void *, void *);
+static void end(void *given) {
+  (void)given;
+  if (!on) return;
+  if (takes_part()) (void)fflush(NULL);
+  finish_run();
+}
+
+/* This library is the first to begin, also before the C library, and the last to end: what others do as they are loaded
+ * is in the run. */
 bool begun;
-__attribute__((constructor(101))) static void begin(void) {
+__attribute__((constructor(101))) static void begin(int count, char **words, char **variables) {
+  (void)count, (void)words;
+  environ = variables;
   if (!getenv("DETIO_RUN")) return;
   inside++;
   begin_callers();
   open_log();
   begin_turns();
+  if (run.goes_on) begin_as_next();
   begin_descriptors();
   fix_chance();
-  unsetenv("DETIO_RUN"); /* a run is one process */
-  unsetenv("LD_PRELOAD");
-  unsetenv("DETIO_PAD");
+  hide_variables();
   begin_processes();
   begin_counts();
   begin_signals();
-  if (run.passes)
+  if (run.passes && !run.goes_on)
     say("paths below %s%s go to the host and are not recorded", run.passed[0], run.passes > 1 ? " and others" : "");
   if (run.replays) forbid_effects();
   if (run.strict) forbid_strangers();
@@ -95,10 +129,5 @@ __attribute__((constructor(101))) static void begin(void) {
   inside--;
   begin_files();
   begun = true;
-}
-
-__attribute__((destructor)) static void end(void) {
-  if (!on) return;
-  if (takes_part()) (void)fflush(NULL);
-  finish_run();
+  __cxa_atexit(end, NULL, NULL);
 }

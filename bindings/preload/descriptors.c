@@ -65,7 +65,7 @@ int64_t plain_call(const detio_call *call, const void *text, size_t length, void
   if (r.kind == DETIO_FAILURE) return fails(r.error);
   return r.kind == DETIO_NUMBER ? r.first : r.kind == DETIO_COUNT || r.kind == DETIO_DATA ? (int64_t)r.count : 0;
 }
-static int64_t call_on(int fd, uint32_t kind, int64_t number) {
+int64_t call_on(int fd, uint32_t kind, int64_t number) {
   if (fd == ORACLE) return errno = EBADF, -1;
   return plain_call(&(detio_call){.kind = kind, .descriptor = fd, .number = number}, NULL, 0, NULL, 0);
 }
@@ -76,7 +76,7 @@ int number_for(const opened_file *file) {
   return -1;
 }
 /* What a number refers to from now on. What it referred to before stays, since a thread may be in a call on it. */
-static void refer(int fd, opened_file *file) {
+void refer(int fd, opened_file *file) {
   if (fd < 0 || fd >= NUMBERS) return;
   opened_file *before = numbers[fd];
   numbers[fd] = file;
@@ -624,7 +624,7 @@ static int lock_record(int fd, int what, struct flock *lock) {
     if (!wait_a_little()) return -1;
   }
 }
-static int control(int fd, int what, long given) {
+int control(int fd, int what, long given) {
   int r;
   if (opened_at(fd)->kind == NONE) return errno = EBADF, -1;
   switch (what) {
@@ -764,11 +764,10 @@ EXPORT void *mmap64(void *at, size_t length, int prot, int flags, int fd, off_t 
   return mmap(at, length, prot, flags, fd, from);
 }
 
-/* Standard input is a door; standard output and standard error are places in the table; the oracle has the last number.
- * Each other number below NATIVE is taken at the host, so that its own numbers begin there. */
-void begin_descriptors(void) {
+/* Standard input is a door; standard output and standard error are places in the table: the door's descriptor of the
+ * host. */
+static int open_standard(void) {
   detio_reply r;
-  struct rlimit most;
   make_call(&(detio_call){.kind = DETIO_HOST_OPEN, .choice = DETIO_READ_WRITE}, "detio:0", 7, NULL, 0, &r, NULL, 0);
   if (r.kind != DETIO_NUMBER) /* there is no standard input: its number is taken all the same */
     make_call(&(detio_call){.kind = DETIO_OPEN, .choice = DETIO_READ_WRITE, .flags = DETIO_CREATE}, "/.std", 5, NULL, 0,
@@ -777,23 +776,9 @@ void begin_descriptors(void) {
   for (int fd = 1; fd < 3; fd++)
     make_call(&(detio_call){.kind = DETIO_OPEN, .choice = DETIO_READ_WRITE, .flags = DETIO_CREATE}, "/.std", 5, NULL, 0,
               &r, NULL, 0);
-  make_call(&(detio_call){.kind = DETIO_HOST_OPEN, .choice = DETIO_READ_ONLY}, "detio:o", 7, NULL, 0, &r, NULL, 0);
-  int64_t low = r.first;
-  make_call(&(detio_call){.kind = DETIO_DUP_FROM, .descriptor = low, .number = ORACLE}, NULL, 0, NULL, 0, &r, NULL, 0);
-  make_call(&(detio_call){.kind = DETIO_CLOSE, .descriptor = low}, NULL, 0, NULL, 0, &r, NULL, 0);
-  if (!KERNEL(SYS_getrlimit, RLIMIT_NOFILE, &most) && most.rlim_cur < NATIVE + 128) {
-    most.rlim_cur = most.rlim_max < NATIVE + 128 ? most.rlim_max : NATIVE + 128;
-    KERNEL(SYS_setrlimit, RLIMIT_NOFILE, &most);
-  }
-  int lowest = (int)KERNEL(SYS_open, "/dev/null", O_PATH | O_CLOEXEC, 0);
-  int empty = (int)KERNEL(SYS_fcntl, lowest, F_DUPFD_CLOEXEC, 3); /* a standard number that is closed stays so */
-  KERNEL(SYS_close, lowest);
-  for (int fd = 3; fd < NATIVE; fd++)
-    if (fd != empty && KERNEL(SYS_fcntl, fd, F_GETFD) == -EBADF) KERNEL(SYS_dup3, empty, fd, O_CLOEXEC);
-  int above = (int)KERNEL(SYS_fcntl, empty, F_DUPFD_CLOEXEC, 3);
-  if (above < NATIVE) ends(OURS, "the host has too few descriptors: a run needs more than %d", NATIVE);
-  KERNEL(SYS_close, above);
-  compare_about();
+  return input;
+}
+static void name_standard(int input) {
   int64_t kind = asks(ASK_KIND, input, NULL, 0, NULL, 0);
   if (kind >= 0) set_kind(new_opened(0, HOST, input), kind);
   else (void)call_on(0, DETIO_CLOSE, 0);
@@ -801,6 +786,38 @@ void begin_descriptors(void) {
     if (asks(ASK_KIND, fd, NULL, 0, NULL, 0) >= 0) new_opened(fd, STANDARD, fd);
     else (void)call_on(fd, DETIO_CLOSE, 0);
   }
-  for (int fd = 0; fd < 3; fd++)
-    if (KERNEL(SYS_fcntl, fd, F_GETFD) == -EBADF) KERNEL(SYS_dup3, empty, fd, O_CLOEXEC);
+}
+/* The oracle has the last number. */
+static void open_oracle(void) {
+  detio_reply r;
+  make_call(&(detio_call){.kind = DETIO_HOST_OPEN, .choice = DETIO_READ_ONLY}, "detio:o", 7, NULL, 0, &r, NULL, 0);
+  int64_t low = r.first;
+  make_call(&(detio_call){.kind = DETIO_DUP_FROM, .descriptor = low, .number = ORACLE}, NULL, 0, NULL, 0, &r, NULL, 0);
+  make_call(&(detio_call){.kind = DETIO_CLOSE, .descriptor = low}, NULL, 0, NULL, 0, &r, NULL, 0);
+}
+/* The numbers of the host in a range are taken, where they are free, by what `empty` is. */
+static void take_numbers(int first, int end, int empty) {
+  for (int fd = first; fd < end; fd++)
+    if (fd != empty && KERNEL(SYS_fcntl, fd, F_GETFD) == -EBADF) KERNEL(SYS_dup3, empty, fd, O_CLOEXEC);
+}
+/* Each number below NATIVE but the program's is taken at the host, so that its own numbers begin there. */
+void begin_descriptors(void) {
+  struct rlimit most;
+  int input = run.goes_on ? -1 : open_standard();
+  open_oracle();
+  if (!KERNEL(SYS_getrlimit, RLIMIT_NOFILE, &most) && most.rlim_cur < NATIVE + 128) {
+    most.rlim_cur = most.rlim_max < NATIVE + 128 ? most.rlim_max : NATIVE + 128;
+    KERNEL(SYS_setrlimit, RLIMIT_NOFILE, &most);
+  }
+  int lowest = (int)KERNEL(SYS_open, "/dev/null", O_PATH | O_CLOEXEC, 0);
+  int empty = (int)KERNEL(SYS_fcntl, lowest, F_DUPFD_CLOEXEC, 3); /* a standard number that is closed stays so */
+  KERNEL(SYS_close, lowest);
+  take_numbers(3, NATIVE, empty);
+  int above = (int)KERNEL(SYS_fcntl, empty, F_DUPFD_CLOEXEC, 3);
+  if (above < NATIVE) ends(OURS, "the host has too few descriptors: a run needs more than %d", NATIVE);
+  KERNEL(SYS_close, above);
+  compare_about();
+  if (run.goes_on) take_kept();
+  else name_standard(input);
+  take_numbers(0, 3, empty);
 }

@@ -68,7 +68,8 @@ static const char *const questions[] = {
     [ASK_SIGNALS] = "sigpending",
     [ASK_TIMER] = "a timer",
     [ASK_NET] = "what a socket does",
-    [ASK_HOSTS] = "the addresses of a host"};
+    [ASK_HOSTS] = "the addresses of a host",
+    [ASK_EXEC] = "exec"};
 enum { QUESTIONS = sizeof questions / sizeof *questions };
 static const char *const requests[] = {"",       "open",    "a read", "a write",  "lseek",
                                        "listen", "connect", "accept", "shutdown", "close"};

@@ -183,20 +183,25 @@ static int tell_ready(struct epoll *e, const struct pollfd *fds, const int *whic
   }
   return told;
 }
+/* What is left of a wait that looks again, as the recording had it: timers may be there now, which go by its clocks. */
+static int64_t recorded_left(int64_t until) {
+  int64_t left = until - now_in_recording();
+  (void)ask(&(question){.what = ASK_LEFT, .bytes = &left, .length = sizeof left, .room = sizeof left}, &left, NULL);
+  return left < 1 ? 1 : left;
+}
 static int wait_epoll(int at, struct epoll_event *to, int room, int64_t nanos) {
   const opened_file *f = opened_at(at);
   struct pollfd fds[NUMBERS];
   int which[NUMBERS], n;
   if (f->kind == NONE) return errno = EBADF, -1;
   if (f->kind != EPOLL || room <= 0) return errno = EINVAL, -1;
-  int64_t until = nanos < 0 ? -1 : now_in_recording() + nanos;
-  for (;;) {
+  int64_t until = now_in_recording() + nanos, left = nanos;
+  for (;; left = nanos > 0 ? recorded_left(until) : nanos) {
     turn();
     unsigned seen = changes;
     nfds_t count = look_for(f->object, fds, which);
     turn_end();
-    int64_t left = nanos <= 0 ? nanos : until - now_in_recording();
-    n = poll_all(fds, count, nanos > 0 && left < 1 ? 1 : left, &changes, seen);
+    n = poll_all(fds, count, left, &changes, seen);
     if (n == LOOKS_AGAIN) continue;
     if (n < 0) return n;
     turn();

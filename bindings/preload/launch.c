@@ -2,8 +2,8 @@
  * the status are the program's own. */
 #define _GNU_SOURCE
 #include "about.h"
+#include "runs.h"
 
-#include <elf.h>
 #include <errno.h>
 #include <fcntl.h>
 #include <limits.h>
@@ -137,39 +137,17 @@ static void find_program(const char *word, char *path) {
   fails(NOT_FOUND, "%s is not found", word);
 }
 
-/* The interpreter of a script whose first bytes these are, or NULL. */
-static const char *interpreter(char *bytes, ssize_t length) {
-  if (length < 3 || memcmp(bytes, "#!", 2)) return NULL;
-  bytes[length] = 0;
-  char *first = bytes + 2 + strspn(bytes + 2, " \t");
-  first[strcspn(first, " \t\n")] = 0;
-  return *first == '/' ? first : NULL;
-}
-
 /* A program that can be run, and loads libraries, also ours; or a script of such a program. */
-static void look_at(const char *path, int depth) {
-  char script[256];
-  struct stat status;
-  Elf64_Ehdr head;
-  Elf64_Phdr part;
-  bool loads = false;
-  int from = open(path, O_RDONLY | O_CLOEXEC);
-  if (from < 0) fails(errno == ENOENT ? NOT_FOUND : CANNOT_RUN, "%s cannot be run: %s", path, strerror(errno));
-  const char *runs = interpreter(script, read(from, script, sizeof script - 1));
-  if (runs && depth < 4) return (void)close(from), look_at(runs, depth + 1);
-  ssize_t n = pread(from, &head, sizeof head, 0);
-  if (n >= 2 && !memcmp(&head, "#!", 2)) return (void)close(from);
-  if (n != sizeof head || memcmp(head.e_ident, ELFMAG, SELFMAG) || head.e_ident[EI_CLASS] != ELFCLASS64)
-    fails(CANNOT_RUN, "%s is not a program of this machine", path);
-  for (int i = 0; i < head.e_phnum; i++)
-    if (pread(from, &part, sizeof part, (off_t)(head.e_phoff + (size_t)i * head.e_phentsize)) == sizeof part)
-      loads = loads || part.p_type == PT_INTERP;
-  if (fstat(from, &status)) fails(CANNOT_RUN, "%s cannot be run: %s", path, strerror(errno));
-  close(from);
-  if (((status.st_mode & S_ISUID) && status.st_uid != geteuid()) ||
-      ((status.st_mode & S_ISGID) && status.st_gid != getegid()))
-    fails(CANNOT_RUN, "%s runs as another user or group, so it loads no library of ours", path);
-  if (!loads) fails(CANNOT_RUN, "%s is linked statically, so no call of it can be recorded", path);
+static void look_at(const char *program) {
+  char path[PATH_MAX];
+  snprintf(path, sizeof path, "%s", program);
+  switch (look_at_program(path)) {
+  case NOT_READ: fails(errno == ENOENT ? NOT_FOUND : CANNOT_RUN, "%s cannot be run: %s", path, strerror(errno));
+  case NO_PROGRAM: fails(CANNOT_RUN, "%s is not a program of this machine", path);
+  case ANOTHER_USER: fails(CANNOT_RUN, "%s runs as another user or group, so it loads no library of ours", path);
+  case STATIC: fails(CANNOT_RUN, "%s is linked statically, so no call of it can be recorded", path);
+  default: return;
+  }
 }
 
 /* An absolute path of the log, which another process may open. */
@@ -321,7 +299,7 @@ int main(int count, char **words) {
   const char *program = first_value(&about, "program"), *directory = first_value(&about, "directory");
   if (!program || !directory || about.full)
     fails(OURS, "arguments and environment are too long, or the log lacks them");
-  look_at(program, 0);
+  look_at(program);
   if (!given.reruns) make_log(&given, path);
   if (!fixed) fputs("detio: the kernel does not fix addresses: a rerun of a program that uses them differs\n", stderr);
   if (given.reruns && chdir(directory)) (void)!chdir("/");

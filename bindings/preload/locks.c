@@ -454,6 +454,7 @@ static bool is_function(long n, long a, long b, long *result) {
   switch (n) {
   case SYS_gettid: return *result = gettid(), true;
   case SYS_getpid: return *result = getpid(), true;
+  case SYS_close: return *result = close((int)a), true; /* as libuv does, of numbers of ours */
   case SYS_getppid: return *result = getppid(), true;
   case SYS_kill: return *result = kill((pid_t)a, (int)b), true;
   case SYS_clock_gettime: return *result = clock_gettime((clockid_t)a, (struct timespec *)b), true;

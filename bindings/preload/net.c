@@ -25,7 +25,7 @@ static const int forbidden[] = {
     SYS_linkat, SYS_symlink, SYS_symlinkat, SYS_mknod, SYS_mknodat, SYS_truncate, SYS_chmod, SYS_fchmodat,
     SYS_chown, SYS_lchown, SYS_fchownat, SYS_utime, SYS_utimes, SYS_utimensat, SYS_futimesat, SYS_setxattr,
     SYS_lsetxattr, SYS_removexattr, SYS_lremovexattr, SYS_creat, SYS_socket, SYS_connect, SYS_bind, SYS_listen,
-    SYS_sendto, SYS_sendmsg, SYS_fork, SYS_vfork, SYS_execve, SYS_execveat, SYS_mount, SYS_umount2, SYS_ptrace,
+    SYS_sendto, SYS_sendmsg, SYS_fork, SYS_vfork, SYS_execveat, SYS_mount, SYS_umount2, SYS_ptrace,
     SYS_process_vm_writev, SYS_shmget, SYS_msgget, SYS_mq_open, SYS_mq_unlink, SYS_io_uring_setup, SYS_reboot,
     SYS_sethostname, SYS_settimeofday, SYS_clock_settime};
 enum { FORBIDDEN = sizeof forbidden / sizeof *forbidden };
@@ -66,13 +66,27 @@ static size_t forbid_where(struct sock_filter *at, long call, int argument, uint
   return sizeof program / sizeof *program;
 }
 
-/* Lays a filter below the process: whether the kernel does. */
+/* .. but where the run goes on as another program. */
+static size_t forbid_programs(struct sock_filter *at) {
+  struct sock_filter program[] = {
+      BPF_JUMP(BPF_JMP | BPF_JEQ | BPF_K, SYS_execve, 0, 6),
+      BPF_STMT(BPF_LD | BPF_W | BPF_ABS, ARGUMENT(0)),
+      BPF_JUMP(BPF_JMP | BPF_JEQ | BPF_K, (uint32_t)PATH_PLACE, 0, 3),
+      BPF_STMT(BPF_LD | BPF_W | BPF_ABS, ARGUMENT(0) + 4),
+      BPF_JUMP(BPF_JMP | BPF_JEQ | BPF_K, (uint32_t)(PATH_PLACE >> 32), 0, 1),
+      ALLOW,
+      TRAP};
+  memcpy(at, program, sizeof program);
+  return sizeof program / sizeof *program;
+}
+
+/* Lays a filter below the process, which stays there for programs that the run goes on as: whether the kernel does. */
 static bool filter(struct sock_filter *program, size_t length) {
   struct sigaction act = {.sa_sigaction = refuse, .sa_flags = SA_SIGINFO | SA_NODEFER};
   struct sock_fprog all = {.len = (unsigned short)length, .filter = program};
   inside++;
   bool there = !sigaction(SIGSYS, &act, NULL) && !prctl(PR_SET_NO_NEW_PRIVS, 1, 0, 0, 0) &&
-               !KERNEL(SYS_seccomp, SECCOMP_SET_MODE_FILTER, 0, &all);
+               (run.goes_on || !KERNEL(SYS_seccomp, SECCOMP_SET_MODE_FILTER, 0, &all));
   inside--;
   return there;
 }
@@ -89,6 +103,7 @@ void forbid_effects(void) {
   program[n++] = (struct sock_filter)BPF_JUMP(BPF_JMP | BPF_JGE | BPF_K, 0x40000000, 0, 1);
   program[n++] = (struct sock_filter)TRAP;
   for (size_t i = 0; i < FORBIDDEN; i++) n += forbid(program + n, forbidden[i]);
+  n += forbid_programs(program + n);
   n += forbid_where(program + n, SYS_open, 1, BPF_JSET, O_ACCMODE | O_CREAT | O_TRUNC, false);
   n += forbid_where(program + n, SYS_openat, 2, BPF_JSET, O_ACCMODE | O_CREAT | O_TRUNC, false);
   n += forbid(program + n, SYS_openat2);

@@ -28,7 +28,7 @@ static long receive(const question *q, uint8_t *out) {
   struct iovec part = {out + sizeof *head, q->room - sizeof *head};
   struct msghdr m = {.msg_name = head->from, .msg_namelen = sizeof head->from, .msg_iov = &part, .msg_iovlen = 1};
   long r = KERNEL(SYS_recvmsg, q->at, &m, (int32_t)q->b);
-  head->flags = m.msg_flags & (MSG_TRUNC | MSG_EOR | MSG_OOB);
+  head->flags = m.msg_flags & (MSG_TRUNC | MSG_EOR | MSG_OOB | MSG_CTRUNC);
   head->length = m.msg_namelen;
   return r;
 }
@@ -182,12 +182,15 @@ static void give_back(uint8_t *room) {
   detio_heap_free(room);
   unlock_run();
 }
+/* What goes with a message beside its bytes. */
+bool has_control(const struct msghdr *m) {
+  if (m->msg_controllen)
+    uncovered("control", "a message with descriptors or other control data is not covered: refused, in a rerun too");
+  return m->msg_controllen;
+}
 ssize_t send_parts(int fd, const struct msghdr *m, int flags) {
   size_t all, at = 0;
-  if (m->msg_controllen) {
-    uncovered("control", "a message with descriptors or other control data is not covered: refused, in a rerun too");
-    return errno = EOPNOTSUPP, -1;
-  }
+  if (has_control(m)) return errno = EOPNOTSUPP, -1;
   uint8_t *room = room_for(m, &all);
   for (size_t i = 0; i < m->msg_iovlen; at += m->msg_iov[i++].iov_len)
     memcpy(room + at, m->msg_iov[i].iov_base, m->msg_iov[i].iov_len);
@@ -203,6 +206,8 @@ ssize_t receive_parts(int fd, struct msghdr *m, int flags) {
     size_t left = (size_t)n - at, here = m->msg_iov[i].iov_len;
     memcpy(m->msg_iov[i].iov_base, room + at, left < here ? left : here);
   }
+  if (n >= 0 && (m->msg_flags & MSG_CTRUNC))
+    uncovered("control came", "descriptors or other control data that came with a message are dropped, in a rerun too");
   m->msg_controllen = 0;
   give_back(room);
   return n;

@@ -23,7 +23,7 @@
 /* The door of the oracle: no descriptor of the host has this number. */
 #define ORACLE_DOOR (1ull << 20)
 
-static uint64_t outsides; /* outcomes so far that could fail */
+uint64_t outsides;
 
 void digest(const void *bytes, size_t length) {
   const uint8_t *at = bytes;
@@ -178,6 +178,7 @@ static long ask_host(const question *q, uint8_t *out) {
   case ASK_AFFINITY: return KERNEL(SYS_sched_getaffinity, q->a, q->room, out);
   case ASK_NET: return call_net(q, out);
   case ASK_HOSTS: return call_hosts(q, out);
+  case ASK_EXEC: return look_for_program(q, out);
   case ASK_TIMER: return call_timer((long)q->a, q->b, q->bytes, out);
   case ASK_SIGNALS: return KERNEL(SYS_rt_sigpending, out, 8);
   default: return ask_open(q, out);

@@ -53,7 +53,7 @@ enum ask {
   ASK_CHMOD, ASK_FCHMOD, ASK_CHOWN, ASK_FCHOWN, ASK_UTIMES, ASK_READLINK, ASK_REALPATH, ASK_GETCWD, ASK_CHDIR,
   ASK_FCHDIR, ASK_LISTING, ASK_GETXATTR, ASK_FGETXATTR, ASK_LISTXATTR, ASK_FLISTXATTR, ASK_IOCTL, ASK_SOCKNAME,
   ASK_PEERNAME, ASK_KILL, ASK_CHILD, ASK_SYSINFO, ASK_UNAME, ASK_USAGE, ASK_TIMES, ASK_AFFINITY, ASK_SIGNALS, ASK_TIMER,
-  ASK_NET, ASK_HOSTS
+  ASK_NET, ASK_HOSTS, ASK_EXEC
 };
 
 typedef struct {
@@ -128,6 +128,7 @@ extern bool begun;           /* .. and the program goes on by itself: what fails
 /* The settings of the run. The log of a rerun has them. */
 typedef struct {
   bool replays, force, overlap, serial, strict, waits_forever, fixed;  /* fixed: the same addresses in each run */
+  bool goes_on;                        /* from a program before this one, by exec */
   size_t threads;
   uint64_t seed, fault;
   const char *memory;                  /* paths below it live in the run; NULL: none */
@@ -220,6 +221,7 @@ int mutex_owner(const void *at);
 
 /* outside.c */
 uint32_t go_outside(void);
+extern uint64_t outsides; /* outcomes so far that could fail */
 int64_t ask(const question *, void *answer, size_t *length);
 int64_t asks(enum ask what, int at, const char *path, int64_t a, void *answer, size_t room);
 /* At the turn, which it gives up with the lock: waits for the outside, which has one record. `ready` says what is
@@ -251,6 +253,14 @@ uint64_t next_pushes(int i);  /* of a rerun: what the next answer for thread i h
 bool has_outcomes(int i);
 uint64_t next_signal(int i);  /* of a rerun: the entry at which a signal comes, where that is next for thread i; or 0 */
 void compare_about(void);
+
+/* exec.c */
+#define PATH_PLACE 0x680000000000 /* where the path stands of a program that the run goes on as: none else may begin */
+long look_for_program(const question *, uint8_t *out);
+void begin_as_next(void);           /* of a program that the run goes on as: its turns and counts go on */
+
+/* kept.c */
+void take_kept(void);               /* what the program before this one left open */
 
 /* the end of a run by us */
 _Noreturn void ends(int status, const char *format, ...) __attribute__((format(printf, 2, 3)));
@@ -287,6 +297,9 @@ int64_t plain_call(const detio_call *, const void *text, size_t length, void *da
 void *new_opened(int fd, enum kind kind, int real);
 void begin_descriptors(void);
 bool wait_for_door(int fd, short events); /* false: a handler has the call fail with EINTR */
+int64_t call_on(int fd, uint32_t kind, int64_t number);
+void refer(int fd, opened_file *); /* what a number refers to from now on */
+int control(int fd, int what, long given); /* as fcntl */
 
 /* readiness.c */
 bool await_bytes(const opened_file *); /* of a pipe or pair, until it has some, or nobody writes it; false: EINTR */
@@ -316,6 +329,7 @@ int connect_net(int fd, const struct sockaddr *, unsigned length);
 int accept_net(int fd, int flags);
 ssize_t send_net(int fd, const void *, size_t count, int flags, const struct sockaddr *, unsigned length);
 ssize_t receive_net(int fd, void *, size_t count, int flags, struct sockaddr *, unsigned *length, int *said);
+bool has_control(const struct msghdr *);
 ssize_t send_parts(int fd, const struct msghdr *, int flags);
 ssize_t receive_parts(int fd, struct msghdr *, int flags);
 int set_net(int fd, int level, int option, const void *, unsigned length);

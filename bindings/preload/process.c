@@ -118,48 +118,12 @@ EXPORT int pclose(FILE *file) {
   }
 SPAWNS(posix_spawn)
 SPAWNS(posix_spawnp)
-#define EXECUTES(name, given, passed)                                  \
-  EXPORT int name given {                                              \
-    NEXT(name);                                                        \
-    OFF(next passed);                                                  \
-    if (starts_none(#name)) return errno = ENOSYS, -1;                 \
-    free_counts(true);                                                 \
-    int code = next passed;                                            \
-    free_counts(false);                                                \
-    return code;                                                       \
-  }
-EXECUTES(execve, (const char *p, char *const a[], char *const e[]), (p, a, e))
-EXECUTES(execv, (const char *p, char *const a[]), (p, a))
-EXECUTES(execvp, (const char *p, char *const a[]), (p, a))
-EXECUTES(execvpe, (const char *p, char *const a[], char *const e[]), (p, a, e))
-EXECUTES(fexecve, (int f, char *const a[], char *const e[]), (f, a, e))
-EXECUTES(execveat, (int at, const char *p, char *const a[], char *const e[], int how), (at, p, a, e, how))
-EXECUTES(daemon, (int stays, int speaks), (stays, speaks))
-
-/* Words one by one, up to NULL: `words` has them, and `rest` is after them. */
-#define GATHER(first)                                                     \
-  va_list rest, again;                                                    \
-  va_start(rest, first);                                                  \
-  va_copy(again, rest);                                                   \
-  size_t count = 0;                                                       \
-  for (const char *word = first; word; word = va_arg(again, const char *)) count++; \
-  va_end(again);                                                          \
-  char *words[count + 1];                                                 \
-  words[0] = (char *)first;                                               \
-  for (size_t i = 1; i <= count; i++) words[i] = va_arg(rest, char *)
-EXPORT int execl(const char *path, const char *first, ...) {
-  GATHER(first);
-  va_end(rest);
-  return execv(path, words);
-}
-EXPORT int execlp(const char *path, const char *first, ...) {
-  GATHER(first);
-  va_end(rest);
-  return execvp(path, words);
-}
-EXPORT int execle(const char *path, const char *first, ...) {
-  GATHER(first);
-  char *const *variables = va_arg(rest, char *const *);
-  va_end(rest);
-  return execve(path, words, variables);
+EXPORT int daemon(int stays, int speaks) {
+  NEXT(daemon);
+  OFF(next(stays, speaks));
+  if (starts_none("daemon")) return errno = ENOSYS, -1;
+  free_counts(true);
+  int code = next(stays, speaks);
+  free_counts(false);
+  return code;
 }

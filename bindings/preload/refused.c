@@ -88,9 +88,6 @@ REFUSES(int, -1, EOPNOTSUPP, open_by_handle_at, (int mount, struct file_handle *
 REFUSES(ssize_t, -1, EINVAL, tee, (int from, int to, size_t count, unsigned flags), (from, to, count, flags))
 REFUSES(ssize_t, -1, EINVAL, vmsplice, (int fd, const struct iovec *parts, size_t count, unsigned flags),
         (fd, parts, count, flags))
-REFUSED(recvmmsg, (int fd, struct mmsghdr *to, unsigned count, int flags, struct timespec *time),
-        (fd, to, count, flags, time))
-REFUSED(sendmmsg, (int fd, struct mmsghdr *of, unsigned count, int flags), (fd, of, count, flags))
 REFUSED(sockatmark, (int fd), (fd))
 REFUSED(bindresvport, (int fd, void *address), (fd, address))
 REFUSED(setns, (int fd, int what), (fd, what))

@@ -178,7 +178,8 @@ EXPORT ssize_t recv(int fd, void *bytes, size_t count, int flags) {
   OFF(next(fd, bytes, count, flags));
   if (!is_ours(fd)) return next(fd, bytes, count, flags);
   if (!is_socket(fd)) return -1;
-  if (opened_at(fd)->kind == NET) return receive_net(fd, bytes, count, flags, NULL, NULL, NULL);
+  bool looks = opened_at(fd)->kind == STREAM && (flags & MSG_PEEK); /* what is there stays there, at the host */
+  if (opened_at(fd)->kind == NET || looks) return receive_net(fd, bytes, count, flags, NULL, NULL, NULL);
   if (flags & ~(MSG_NOSIGNAL | MSG_DONTWAIT | MSG_WAITALL | MSG_CMSG_CLOEXEC)) {
     uncovered("recv", "recv with flags %d is not covered: refused, in a rerun too", flags);
     return errno = EOPNOTSUPP, -1;
@@ -247,8 +248,46 @@ EXPORT ssize_t sendmsg(int fd, const struct msghdr *message, int flags) {
   OFF(next(fd, message, flags));
   if (!is_ours(fd)) return next(fd, message, flags);
   if (opened_at(fd)->kind == NET) return send_parts(fd, message, flags);
-  if (message->msg_controllen) return errno = EOPNOTSUPP, -1;
-  return is_socket(fd) ? writev(fd, message->msg_iov, (int)message->msg_iovlen) : -1;
+  if (!is_socket(fd)) return -1;
+  if (has_control(message)) return errno = EOPNOTSUPP, -1;
+  return writev(fd, message->msg_iov, (int)message->msg_iovlen);
+}
+
+/* Several messages: how many, or -1 where the first fails. The kernel looks at the time after each that came. */
+EXPORT int sendmmsg(int fd, struct mmsghdr *of, unsigned count, int flags) {
+  NEXT(sendmmsg);
+  OFF(next(fd, of, count, flags));
+  if (!is_ours(fd)) return next(fd, of, count, flags);
+  for (unsigned i = 0; i < count; i++) {
+    ssize_t n = sendmsg(fd, &of[i].msg_hdr, flags);
+    if (n < 0) return i ? (int)i : -1;
+    of[i].msg_len = (unsigned)n;
+  }
+  return (int)count;
+}
+static bool is_over(const struct timespec *time, const struct timespec *began) {
+  struct timespec now;
+  (void)clock_gettime(CLOCK_MONOTONIC, &now);
+  int64_t passed = (now.tv_sec - began->tv_sec) * (int64_t)1000000000 + now.tv_nsec - began->tv_nsec;
+  return passed >= time->tv_sec * (int64_t)1000000000 + time->tv_nsec;
+}
+EXPORT int recvmmsg(int fd, struct mmsghdr *to, unsigned count, int flags, struct timespec *time) {
+  NEXT(recvmmsg);
+  OFF(next(fd, to, count, flags, time));
+  if (!is_ours(fd)) return next(fd, to, count, flags, time);
+  struct timespec began = {0, 0};
+  bool one = flags & MSG_WAITFORONE;
+  if (time && (time->tv_sec < 0 || (unsigned long)time->tv_nsec >= 1000000000)) return errno = EINVAL, -1;
+  if (time) (void)clock_gettime(CLOCK_MONOTONIC, &began);
+  flags &= ~MSG_WAITFORONE;
+  for (unsigned i = 0; i < count; i++) {
+    ssize_t n = recvmsg(fd, &to[i].msg_hdr, flags);
+    if (n < 0) return i ? (int)i : -1;
+    to[i].msg_len = (unsigned)n;
+    if (one) flags |= MSG_DONTWAIT;
+    if (time && is_over(time, &began)) return (int)i + 1;
+  }
+  return (int)count;
 }
 
 /* Options: a socket of ours has none, but says what it is. */

@@ -238,6 +238,16 @@ EXPORT int pthread_cancel(pthread_t thread) {
   turn_end();
   return code;
 }
+/* .. also where it would end at any instruction: that could be in the midst of our own code. */
+EXPORT int pthread_setcanceltype(int type, int *old) {
+  static __thread int kept = PTHREAD_CANCEL_DEFERRED;
+  NEXT(pthread_setcanceltype);
+  OFF(next(type, old));
+  if (type != PTHREAD_CANCEL_DEFERRED && type != PTHREAD_CANCEL_ASYNCHRONOUS) return EINVAL;
+  if (old) *old = kept;
+  kept = type;
+  return 0;
+}
 EXPORT int sched_yield(void) {
   NEXT(sched_yield);
   OFF(next());

@@ -19,6 +19,7 @@ TESTS = pathlib.Path(repository.TOP) / "bindings/preload/tests"
 PRELOAD = pathlib.Path(repository.TOP) / "bindings/preload"
 SECONDS = 120
 DIVERGED, DEADLOCK, STRICT, LOG_ENDS, DIFFERS, OURS = 120, 121, 122, 123, 124, 125
+EIO = 9  # in a log
 
 
 @dataclass(frozen=True)
@@ -77,6 +78,10 @@ CASES = (
     Case("nets", ("@nets",)),
     Case("nets in parallel", ("@nets",), ("--parallel",)),
     Case("process", ("@process",), status=7),
+    Case("execs", ("@execs", "0", "{tests}"), input="input.txt"),
+    Case("execs with a seed", ("@execs", "0", "{tests}"), ("--seed", "3"), input="input.txt", reruns=2),
+    Case("a shell that goes on", ("/bin/sh", "-c", "read a < input.txt; exec env A=$a sort -n --parallel=2 data.txt"),
+         input="input.txt"),
     Case("handlers", ("@handlers",), reruns=10),
     Case("handlers in parallel", ("@handlers",), ("--parallel",)),
     Case("ended by a signal", ("@moments", "default"), status=128 + signal.SIGTERM),
@@ -104,6 +109,9 @@ CASES = (
     Case("streams", ("@streams",), (), ("c++",), "input.txt", native=False),
     Case("Rust", ("@threads.rs",), (), ("rustc",), native=False, reruns=20),
     Case("TBB", ("@blocks",), (), ("c++", "/usr/include/tbb/parallel_for.h"), native=False, reruns=20),
+    Case("bash that goes on", ("bash", "-c", "exec 3<input.txt 4>&1; read -u 3 a; exec bash -c 'read -u 3 b; cat() { "
+                               "while read c; do echo $a $b $c; done; }; export a=1; cat >&4; exec env' <<E\none\ntwo\nE\n"),
+         (), ("bash",), "input.txt"),
     Case("pigz", ("pigz", "-p", "4", "-c", DATA), (), ("pigz",)),
     Case("pigz of standard input", ("pigz", "-m", "-p", "3"), (), ("pigz",), stdin=True),
     Case("pbzip2", ("pbzip2", "-p4", "-c", DATA), (), ("pbzip2",)),
@@ -328,10 +336,7 @@ def cut(trial: Trial) -> None:
     make_inputs(folder)
     run = trial.run("whole.log", str(trial.room / "programs/ticks"), folder=folder)
     log = (folder / "whole.log").read_bytes()
-    ends = [16]
-    while log[ends[-1]:ends[-1] + 1] == b"R":
-        ends.append(ends[-1] + 27 + int.from_bytes(log[ends[-1] + 25:ends[-1] + 27], "big"))
-    for end in ends[-100:]:
+    for end in records_end(log)[-100:]:
         (folder / "cut.log").write_bytes(log[:end])
         again = trial.rerun("cut.log", folder=folder)
         known = again.status in (0, LOG_ENDS) or again.status == DIFFERS and not again.out
@@ -380,23 +385,27 @@ def own_environment(trial: Trial, folder: pathlib.Path) -> None:
         trial.check((ran.status, ran.out) == (0, b"0[]\n"), f"differing: environment: {ran.status} {ran.out!r} {ran.ours()}")
 
 
+def compile_static(folder: pathlib.Path) -> bool:
+    """A program `static` that is linked statically: whether it could be made."""
+    (folder / "static.c").write_text("int main(void) { return 0; }\n", encoding="ascii")
+    words = [os.environ.get("CC", "cc"), "-static", "-o", "static", "static.c"]
+    return subprocess.run(words, cwd=folder, stderr=subprocess.DEVNULL).returncode == 0
+
+
 def statuses(trial: Trial) -> None:
     """What is wrong has its status, and one line."""
     folder = trial.room / "statuses"
     make_inputs(folder)
     launcher = str(trial.library / "detio-launch")
-    (folder / "static.c").write_text("int main(void) { return 0; }\n", encoding="ascii")
     (folder / "no-program").write_text("no program\n", encoding="ascii")
     (folder / "no-program").chmod(0o755)
     (folder / "torn").write_bytes(b"DIOL\0\2\0")
-    static = subprocess.run([os.environ.get("CC", "cc"), "-static", "-o", "static", "static.c"], cwd=folder,
-                            stderr=subprocess.DEVNULL).returncode == 0
     wanted: list[tuple[int, tuple[str, ...]]] = [
         (127, ("run", "--", "no-such-program")), (126, ("run", "--", "./no-program")), (OURS, ("run",)),
         (OURS, ("run", "--threads", "17", "--", "true")), (OURS, ("run", "--log", "none/log", "--", "true")),
         (OURS, ("rerun", "--", "true")), (OURS, ("rerun", "--log", "none")), (DIFFERS, ("rerun", "--log", "torn")),
         (OURS, ("run", "--mem", "relative", "--", "true")), (OURS, ("run", "--unknown", "--", "true"))]
-    if static:
+    if compile_static(folder):
         (folder / "script").write_text(f"#!{folder}/static -x\n", encoding="ascii")
         (folder / "script").chmod(0o755)
         wanted += [(126, ("run", "--", "./static")), (126, ("run", "--", "./script"))]
@@ -649,7 +658,7 @@ def net(trial: Trial) -> None:
     before = seen(folder)
     again = trial.rerun("../net.log", folder=folder)
     trial.check(seen(folder) == before, "net: a rerun changed the folder")
-    trial.check(again.status == 0 and again.ours().count("reaches outside") == 5, f"net: {again.status} {again.ours()}")
+    trial.check(again.status == 0 and again.ours().count("reaches outside") == 6, f"net: {again.status} {again.ours()}")
 
 
 def passed(trial: Trial) -> None:
@@ -724,7 +733,8 @@ def appears(path: pathlib.Path) -> bool:
 
 
 def children(trial: Trial) -> None:
-    """A recording starts other processes, and a rerun none."""
+    """A recording starts other processes, and a rerun none; it goes on as another program."""
+    executes = (4, 5, 6, 7, 8, 11, 12, 13, 14)
     folder = trial.room / "children"
     make_inputs(folder)
     for way in range(16):
@@ -734,8 +744,71 @@ def children(trial: Trial) -> None:
         trial.check((run.status, there) == wanted, f"children {way}: {run.status} {run.ours()}")
         (folder / "made.txt").unlink(missing_ok=True)
         again = trial.rerun("../children.log", folder=folder)
-        trial.check(again.status == (4 if way == 10 else 3), f"children {way}: rerun: {again.status} {again.ours()}")
+        wants = 4 if way == 10 else 0 if way in executes else 3
+        trial.check(again.status == wants, f"children {way}: rerun: {again.status} {again.ours()}")
         trial.check(not (folder / "made.txt").exists(), f"children {way}: a rerun starts a program")
+
+
+def records_end(log: bytes) -> list[int]:
+    """Where the header of a log ends, and each of its records."""
+    ends = [16]
+    while log[ends[-1]:ends[-1] + 1] == b"R":
+        ends.append(ends[-1] + 27 + int.from_bytes(log[ends[-1] + 25:ends[-1] + 27], "big"))
+    return ends
+
+
+def numbers_of(log: bytes) -> tuple[list[int], list[int]]:
+    """The numbers and the clocks of the first thread's records."""
+    begins = [it for it in records_end(log)[:-1] if log[it + 1:it + 3] == b"\0\0"]
+    return ([int.from_bytes(log[it + 3:it + 7], "big") for it in begins],
+            [int.from_bytes(log[it + 7:it + 15], "big") for it in begins])
+
+
+def goes_on(trial: Trial) -> None:
+    """One log of several programs is a log, is rerun as far as it goes, and by the same programs alone; and what no run
+    goes on as is refused aloud."""
+    folder = trial.room / "goes-on"
+    make_inputs(folder)
+    shutil.copy(trial.room / "programs/asks", folder / "next")
+    shell = ("/bin/sh", "-c", "read a < input.txt; exec ./next $a")
+    run = trial.run("on.log", *shell, folder=folder)
+    log = (folder / "on.log").read_bytes()
+    numbers, clocks = numbers_of(log)
+    ends = records_end(log)
+    trial.check(run.status == 0 and numbers == list(range(len(numbers))) and clocks == sorted(set(clocks)),
+                f"goes on: the log is none: {run.status} {run.ours()}")
+    trial.check(log[ends[-1]:] == b"E" + (len(ends) - 1).to_bytes(4, "big"), "goes on: the log has another end")
+    for end in ends:
+        (folder / "cut.log").write_bytes(log[:end])
+        again = trial.rerun("cut.log", folder=folder)
+        known = again.status in (0, LOG_ENDS) or again.status == DIFFERS and not again.out
+        trial.check(known and run.out.startswith(again.out), f"goes on: cut at {end}: {again.status} {again.ours()}")
+    for fault in range(1, len(ends)):
+        bad = trial.run("fault.log", *shell, folder=folder, options=("--fault", str(fault)))
+        again = trial.rerun("fault.log", folder=folder)
+        broken = (folder / "fault.log").read_bytes()
+        failed = sum(broken[it + 16] == EIO for it in records_end(broken)[:-1])
+        trial.check(again.alone() == bad.alone() and failed <= 1,
+                    f"goes on: fault {fault}: {bad.status}, {again.status} {again.ours()}, {failed} failed")
+    with open(folder / "next", "ab") as program:
+        program.write(b"more")
+    again = trial.rerun("on.log", folder=folder)
+    trial.check(again.status == DIFFERS and "the program differs" in again.ours(), f"goes on: another program: {again}")
+    for options, said in ((("--strict",), "the filter of --strict"), (("--mem", "/run"), "files below --mem")):
+        run = trial.run("on.log", *shell, folder=folder, options=options)
+        trial.check(run.status == (STRICT if "--strict" in options else 126) and said in run.ours(),
+                    f"goes on: {options}: {run.status} {run.ours()}")
+    run = trial.run("on.log", str(trial.room / "programs/execs"), "0", str(TESTS), folder=folder)
+    shutil.rmtree(folder / "below")  # a name of a program that the run made is there
+    again = trial.rerun("on.log", folder=folder)
+    trial.check(again.alone() == run.alone(), f"goes on: by a name that is gone: {again.status} {again.ours()}")
+    if compile_static(folder):
+        run = trial.run("on.log", "/bin/sh", "-c", "exec ./static", folder=folder)
+        again = trial.rerun("on.log", folder=folder)
+        trial.check(run.status == 126 and "linked statically" in run.ours() and again.alone() == run.alone(),
+                    f"goes on: a static program: {run.status} {run.ours()}: {again.status} {again.ours()}")
+    else:
+        trial.leaves_out("a static C library", 1)
 
 
 def other_user(trial: Trial) -> None:
@@ -783,8 +856,9 @@ STRANGERS = {
     "by_syscall": "system call 79 goes past the run", "by_fork": "fork: ", "by_vfork": "fork: ",
     "by_clone": "clone is not",
     "by_spawn": "posix_spawn: ", "by_system": "system: ", "by_popen": "popen: ",
-    "by_words": "execv: ", "by_mapping": "a shared mapping", "by_ring": "system call 425 is not", "by_thread": "no number for one more thread",
-    "by_numbers": "no number for one more file", "by_instruction": "system call 79 goes around"}
+    "by_words": "exec of /bin/true: other threads", "by_mapping": "a shared mapping", "by_ring": "system call 425 is not", "by_thread": "no number for one more thread",
+    "by_numbers": "no number for one more file", "by_rights": "a message with descriptors",
+    "by_timer": "timer_create that begins threads", "by_instruction": "system call 79 goes around"}
 
 
 def strangers(trial: Trial) -> None:
@@ -802,7 +876,7 @@ def strangers(trial: Trial) -> None:
         if not quiet:
             where = callers_in(run, program)
             trial.check(where == [name], f"strangers: {name}: it was called by {where}: {run.ours()}")
-        if name not in ("by_fork", "by_vfork", "by_spawn", "by_words"):
+        if name not in ("by_fork", "by_vfork", "by_spawn"):
             trial.check(again.alone() == run.alone(), f"strangers: {name}: rerun {again.status} {again.ours()}")
         strict = trial.run("strict.log", program, str(way), folder=folder, options=("--strict", *some))
         if "no filter of system calls" in strict.ours():
@@ -899,7 +973,7 @@ def sanitized(trial: Trial, *, launcher: bool) -> Trial | None:
     os.symlink(trial.room / "programs", found.room / "programs")
     if launcher:
         shutil.copy(trial.library / "libdetio_preload.so", folder)
-        sources = [str(trial.sources / f"{name}.c") for name in ("launch", "about", "sha256")]
+        sources = [str(trial.sources / f"{name}.c") for name in ("launch", "about", "runs", "sha256")]
         made = compiles([os.environ.get("CC", "cc"), "-std=c11", "-g", "-fsanitize=address,undefined",
                          "-fno-sanitize-recover=all", "-o", str(folder / "detio-launch"), *sources])
         return found if made else None
@@ -1065,6 +1139,47 @@ def services(trial: Trial) -> None:
                         f"services: {name}: rerun {number}: {again.status} {again.ours()}")
 
 
+# A library that asks for time and chance as it is loaded and as it ends, and a program that prints what it was told.
+EARLY = {
+    "library.c": """#include <stdio.h>
+#include <stdlib.h>
+#include <time.h>
+#include <unistd.h>
+long early[3];
+__attribute__((constructor)) static void begins(void) {
+  struct timespec now;
+  clock_gettime(CLOCK_REALTIME, &now);
+  early[0] = now.tv_nsec, early[1] = getpid(), early[2] = getentropy(&now, 8) + now.tv_nsec;
+}
+__attribute__((destructor)) static void ends(void) {
+  struct timespec now;
+  clock_gettime(CLOCK_REALTIME, &now);
+  printf("%ld\\n", now.tv_nsec);
+  fflush(stdout);
+}
+""",
+    "program.c": """#include <stdio.h>
+extern long early[3];
+int main(void) { printf("%ld %ld %ld\\n", early[0], early[1], early[2]); return 0; }
+"""}
+
+
+def early(trial: Trial) -> None:
+    """What a library does before the program begins, and after it ends, is in the run."""
+    folder = trial.room / "early"
+    make_inputs(folder)
+    for name, text in EARLY.items():
+        (folder / name).write_text(text, encoding="ascii")
+    compiler = os.environ.get("CC", "cc")
+    subprocess.run([compiler, "-shared", "-fPIC", "-o", "libearly.so", "library.c"], cwd=folder, check=True)
+    subprocess.run([compiler, "-o", "program", "program.c", "./libearly.so", f"-Wl,-rpath,{folder}"], cwd=folder, check=True)
+    run = trial.run("early.log", "./program", folder=folder)
+    trial.check(run.status == 0 and len(run.out.split()) == 4, f"early: {run.status} {run.ours()}")
+    for number in range(3):
+        again = trial.rerun("early.log", folder=folder)
+        trial.check(again.alone() == run.alone(), f"early: rerun {number}: {again.status} {again.out!r} {again.ours()}")
+
+
 def fetch(port: int, name: str) -> None:
     """Reads a page."""
     try:
@@ -1114,7 +1229,7 @@ OTHERS: dict[str, Callable[[Trial], None]] = {
     net, "passed": passed, "faults": faults, "each-fault": each_fault, "services": services,
     "own-identity": other_user, "strangers": strangers,
     "from-outside": from_outside, "by-chance": by_chance, "seeds": seeds,
-    "children": children,
+    "early": early, "children": children, "goes-on": goes_on,
     "units": units, "sanitizers": sanitizers, "addresses": addresses, "few": few_addresses, "growing": growing,
     "long": long_log, "in-turn": in_turn,
     "numbers": closed_numbers, "hang": hang_of_pigz, "server": server, "web": web_server}

@@ -16,8 +16,9 @@ int library_answer(void) { int *it = malloc(4); if (!it) return 0; *it = 42; int
 """
 SOURCES = {
     "about.c": "int about(void);\nint about(void) { return 5; }\n",
+    "runs.c": "int runs(void);\nint runs(void) { return 7; }\n",
     "sha256.c": "int sha256(void);\nint sha256(void) { return 6; }\n",
-    "launch.c": "int about(void), sha256(void);\nint main(void) { return about() + sha256(); }\n",
+    "launch.c": "int about(void), runs(void), sha256(void);\nint main(void) { return about() + runs() + sha256(); }\n",
     "heap.c": """#include <stdio.h>
 #include <stdlib.h>
 void *detio_heap_malloc(size_t), *detio_heap_realloc(void *, size_t), *detio_heap_calloc(size_t, size_t);
@@ -67,7 +68,7 @@ class LinkPreload(unittest.TestCase):
         self.assertEqual(self.ran(str(self.folder)), (0, ""))
         self.assertEqual(sorted(os.listdir(self.folder)), ["detio-launch", "libdetio_preload.so", "objects"])
         self.assertEqual(sorted(os.listdir(self.folder / "objects")), before)
-        self.assertEqual(subprocess.run([self.folder / "detio-launch"]).returncode, 11)
+        self.assertEqual(subprocess.run([self.folder / "detio-launch"]).returncode, 18)
         library, link = self.folder / "libdetio_preload.so", self.top.parent / "preload.so"
         link.symlink_to(library)  # no blank may be in LD_PRELOAD
         env = {**os.environ, "LD_PRELOAD": str(link)}

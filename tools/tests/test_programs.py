@@ -34,6 +34,15 @@ class Programs(unittest.TestCase):
         programs.changed(path)
         self.assertEqual(path.read_bytes(), b"some bytes")
 
+    def test_the_records_of_a_log_are_found(self) -> None:
+        def record(thread: int, number: int, clock: int, data: bytes) -> bytes:
+            numbers = thread.to_bytes(2, "big") + number.to_bytes(4, "big") + clock.to_bytes(8, "big")
+            return b"R" + numbers + b"\2\0" + bytes(8) + len(data).to_bytes(2, "big") + data
+
+        log = bytes(16) + record(0, 0, 5, b"ab") + record(1, 0, 6, b"") + record(0, 1, 2**40, b"c") + b"E\0\0\0\3"
+        self.assertEqual(programs.records_end(log), [16, 45, 72, 100])
+        self.assertEqual(programs.numbers_of(log), ([0, 1], [5, 2**40]))
+
     def test_a_change_of_a_folder_is_seen(self) -> None:
         (self.room / "below").mkdir()
         (self.room / "below/file").write_bytes(b"one")

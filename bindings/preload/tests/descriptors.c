@@ -13,6 +13,7 @@
 #include <sys/socket.h>
 #include <sys/stat.h>
 #include <sys/uio.h>
+#include <sys/syscall.h>
 #include <unistd.h>
 
 static char bytes[100000];
@@ -207,9 +208,18 @@ static void copying(void) {
   SAY(unlink("made.txt"));
 }
 
+/* As libuv closes. */
+static void closed_by_number(void) {
+  int fd = dup(1);
+  SAY(syscall(SYS_close, fd));
+  SAY(fcntl(fd, F_GETFD));
+  SAY(syscall(SYS_close, fd));
+}
+
 int main(void) {
   setvbuf(stdout, NULL, _IOFBF, 65536);
   opening();
+  closed_by_number();
   moving();
   numbers();
   pairs();

@@ -11,6 +11,7 @@
 #include <stddef.h>
 #include <stdlib.h>
 #include <sys/socket.h>
+#include <sys/syscall.h>
 #include <sys/time.h>
 #include <sys/uio.h>
 #include <sys/un.h>
@@ -136,6 +137,47 @@ static void elsewhere(void) {
   close(none);
 }
 
+/* Several messages with one call. */
+static void several(int one, int other) {
+  struct iovec out[3] = {{"first", 5}, {"second", 6}, {"third", 5}}, in[4] = {{text, 10}, {text + 10, 3}, {text + 20, 10},
+                                                                              {text + 30, 10}};
+  struct mmsghdr all[4];
+  struct timespec none = {0, 0}, wrong = {0, 1000000000};
+  memset(all, 0, sizeof all), memset(text, 0, sizeof text);
+  for (int i = 0; i < 3; i++) all[i].msg_hdr = (struct msghdr){.msg_iov = &out[i], .msg_iovlen = 1};
+  SAY(sendmmsg(one, all, 3, 0));
+  printf("%u %u %u\n", all[0].msg_len, all[1].msg_len, all[2].msg_len);
+  SAY(sendmmsg(-1, all, 3, 0));
+  for (int i = 0; i < 4; i++) all[i].msg_hdr = (struct msghdr){.msg_iov = &in[i], .msg_iovlen = 1};
+  SAY(recvmmsg(other, all, 4, MSG_DONTWAIT, &wrong));
+  SAY(recvmmsg(other, all, 4, 0, &none));
+  SAY(recvmmsg(other, all + 1, 3, MSG_WAITFORONE, NULL));
+  printf("%u %u %u %s %s %s %d\n", all[0].msg_len, all[1].msg_len, all[2].msg_len, text, text + 10, text + 20,
+         all[1].msg_hdr.msg_flags == MSG_TRUNC);
+  SAY(recvmmsg(other, all, 4, MSG_DONTWAIT, NULL));
+}
+/* A descriptor that another process sends. What is sent by system calls alone is none of ours, and a rerun sends none. */
+static void brought(void) {
+  struct sockaddr_un to = {.sun_family = AF_UNIX, .sun_path = "brought"};
+  int fd = socket(AF_UNIX, SOCK_DGRAM, 0);
+  union { char bytes[CMSG_SPACE(sizeof(int))]; struct cmsghdr aligned; } control;
+  struct iovec part = {"with one", 8};
+  struct msghdr m = {.msg_name = &to, .msg_namelen = sizeof to, .msg_iov = &part, .msg_iovlen = 1,
+                     .msg_control = &control, .msg_controllen = sizeof control};
+  SAY(bind(fd, (struct sockaddr *)&to, sizeof to));
+  long other = syscall(SYS_socket, AF_UNIX, SOCK_DGRAM, 0);
+  CMSG_FIRSTHDR(&m)->cmsg_level = SOL_SOCKET, CMSG_FIRSTHDR(&m)->cmsg_type = SCM_RIGHTS;
+  CMSG_FIRSTHDR(&m)->cmsg_len = CMSG_LEN(sizeof(int));
+  memcpy(CMSG_DATA(CMSG_FIRSTHDR(&m)), &(int){(int)other}, sizeof(int));
+  (void)syscall(SYS_sendmsg, other, &m, 0);
+  part = (struct iovec){text, 100};
+  m = (struct msghdr){.msg_iov = &part, .msg_iovlen = 1};
+  SAY(recvmsg(fd, &m, 0));
+  SAY(m.msg_flags == MSG_CTRUNC);
+  SAY(close(fd));
+  SAY(unlink("brought"));
+}
+
 static void hosts(void) {
   struct addrinfo hints = {.ai_flags = AI_CANONNAME, .ai_family = AF_INET, .ai_socktype = SOCK_STREAM}, *found;
   SAY(getaddrinfo("localhost", "80", &hints, &found));
@@ -169,6 +211,8 @@ int main(void) {
   SAY(write(pair[0], "another", 7));
   SAY(read(pair[1], text, 100));
   SAY(readv(pair[1], &(struct iovec){text, 3}, 1));
+  several(pair[0], pair[1]);
+  brought();
   errno = 0;
   SAY(sendmsg(pair[0], &m, 0) < 0);
   SAY(socket(AF_UNIX, 99, 0));

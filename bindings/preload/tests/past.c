@@ -11,5 +11,6 @@ int main(void) {
   syscall(SYS_openat, AT_FDCWD, "at-past", O_CREAT | O_WRONLY, 0600);
   syscall(SYS_rt_sigqueueinfo, getppid(), 0, &(siginfo_t){.si_code = SI_QUEUE});
   syscall(SYS_unlinkat, AT_FDCWD, "data.txt", 0);
+  syscall(SYS_execve, "/none/none", NULL, NULL);
   return 0;
 }

@@ -22,8 +22,9 @@ static void *client(void *given) {
   if (connect(s, (struct sockaddr *)&address, sizeof address)) return (void *)-1;
   for (int i = 0; i < 5; i++) {
     int n = snprintf(text, sizeof text, "client %ld %d", (long)given, i);
-    if (send(s, text, (size_t)n, MSG_NOSIGNAL) != n || recv(s, back, (size_t)n, MSG_WAITALL) != n ||
-        memcmp(text, back, (size_t)n))
+    if (recv(s, back, 1, MSG_PEEK | MSG_DONTWAIT) != -1 || errno != EAGAIN) return (void *)-3;
+    if (send(s, text, (size_t)n, MSG_NOSIGNAL) != n || recv(s, back, 7, MSG_PEEK) < 1 || memcmp(text, back, 1) ||
+        recv(s, back, (size_t)n, MSG_WAITALL) != n || memcmp(text, back, (size_t)n))
       return (void *)-2;
     pthread_mutex_lock(&m);
     answered++;

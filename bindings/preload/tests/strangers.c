@@ -9,8 +9,10 @@
 #include <spawn.h>
 #include <stdlib.h>
 #include <sys/mman.h>
+#include <sys/socket.h>
 #include <sys/syscall.h>
 #include <sys/wait.h>
+#include <time.h>
 #include <unistd.h>
 
 #define WAY(name) __attribute__((noinline)) static void name(void)
@@ -56,7 +58,10 @@ WAY(by_popen) {
   FILE *f = popen("exit 0", "r");
   said("by_popen", f ? pclose(f) : -1);
 }
+static void *pauses(void *given) { return pause(), given; }
 WAY(by_words) {
+  pthread_t t;
+  pthread_create(&t, NULL, pauses, NULL);
   execl("/bin/true", "true", NULL);
   said("by_words", -1);
 }
@@ -74,6 +79,21 @@ WAY(by_numbers) {
   while (made < 100 && dup(0) >= 0) made++;
   said("by_numbers", made < 100);
 }
+WAY(by_rights) {
+  int pair[2];
+  union { char bytes[CMSG_SPACE(sizeof(int))]; struct cmsghdr aligned; } control = {{0}};
+  struct msghdr m = {.msg_iov = &(struct iovec){"a", 1}, .msg_iovlen = 1, .msg_control = &control,
+                     .msg_controllen = sizeof control};
+  CMSG_FIRSTHDR(&m)->cmsg_level = SOL_SOCKET, CMSG_FIRSTHDR(&m)->cmsg_type = SCM_RIGHTS;
+  CMSG_FIRSTHDR(&m)->cmsg_len = CMSG_LEN(sizeof(int));
+  socketpair(AF_UNIX, SOCK_STREAM, 0, pair);
+  said("by_rights", sendmsg(pair[0], &m, 0) < 0);
+}
+WAY(by_timer) {
+  timer_t timer;
+  struct sigevent then = {.sigev_notify = SIGEV_THREAD};
+  said("by_timer", timer_create(CLOCK_MONOTONIC, &then, &timer) < 0);
+}
 /* As a program of another language does, or a library with system calls of its own. */
 WAY(by_instruction) {
   char here[4096];
@@ -84,7 +104,8 @@ WAY(by_instruction) {
 
 int main(int count, char **words) {
   static void (*const ways[])(void) = {by_syscall, by_fork,    by_vfork, by_clone,  by_spawn,   by_system,     by_popen,
-                                       by_words, by_mapping, by_ring,   by_thread, by_numbers, by_instruction};
+                                       by_words, by_mapping, by_ring,   by_thread, by_numbers, by_rights,
+                                       by_timer, by_instruction};
   size_t way = count > 1 ? (size_t)atoi(words[1]) : 0;
   if (way >= sizeof ways / sizeof *ways) return 9;
   ways[way]();

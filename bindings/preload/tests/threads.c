@@ -60,6 +60,51 @@ static void *ends_last(void *given) {
   return NULL;
 }
 
+/* Threads that may be cancelled at any instruction, while they wait: their destructors run all the same. */
+static pthread_cond_t never = PTHREAD_COND_INITIALIZER;
+static pthread_key_t last;
+static void counts(void *given) {
+  pthread_mutex_lock(&m);
+  ++*(int *)given;
+  pthread_mutex_unlock(&m);
+}
+static void unlocks(void *given) { pthread_mutex_unlock(given); }
+static void *waits_on(void *given) {
+  int old = -1;
+  pthread_setspecific(last, given);
+  pthread_setcanceltype(PTHREAD_CANCEL_ASYNCHRONOUS, &old);
+  pthread_mutex_lock(&m);
+  pthread_cleanup_push(unlocks, &m);
+  ++*(int *)given;
+  for (;;) pthread_cond_wait(&never, &m);
+  pthread_cleanup_pop(1);
+  return given;
+}
+static void cancels_at_once(void) {
+  pthread_t all[3];
+  void *results[3];
+  int began = 0, old;
+  SAY(pthread_setcanceltype(99, &old) == EINVAL);
+  SAY(pthread_setcanceltype(PTHREAD_CANCEL_ASYNCHRONOUS, &old));
+  SAY(old == PTHREAD_CANCEL_DEFERRED);
+  SAY(pthread_setcanceltype(PTHREAD_CANCEL_DEFERRED, &old));
+  SAY(old == PTHREAD_CANCEL_ASYNCHRONOUS);
+  pthread_key_create(&last, counts);
+  for (int i = 0; i < 3; i++) pthread_create(&all[i], NULL, waits_on, &began);
+  for (int now = 0; now < 3; usleep(100)) {
+    pthread_mutex_lock(&m);
+    now = began;
+    pthread_mutex_unlock(&m);
+  }
+  for (int i = 0; i < 3; i++) {
+    TELL(pthread_cancel(all[i]));
+    TELL(pthread_join(all[i], &results[i]));
+    SAY(results[i] == PTHREAD_CANCELED);
+  }
+  SAY(began);
+  pthread_key_delete(last);
+}
+
 int main(void) {
   pthread_t t;
   pthread_attr_t attr;
@@ -110,6 +155,7 @@ int main(void) {
   SAY(thrd_join(c, &value));
   SAY(value);
   thrd_yield();
+  cancels_at_once();
   pthread_create(&t, NULL, sleeps_on, NULL);
   usleep(2000);
   TELL(pthread_cancel(t));

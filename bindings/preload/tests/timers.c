@@ -86,8 +86,41 @@ static void together(void) {
   SAY(epoll_wait(at, &found, 1, 10));
 }
 
+/* A timer that is added to an epoll, or to its timers, while another thread waits there with a bound: that does not ring
+ * before the wait is over. */
+static int waited_at;
+static void *adds(void *given) {
+  struct epoll_event found = {.events = EPOLLIN, .data.fd = 3};
+  usleep(20000);
+  return epoll_ctl(waited_at, EPOLL_CTL_ADD, t, &found) ? given : NULL;
+}
+static void *adds_another(void *given) {
+  struct epoll_event found = {.events = EPOLLIN, .data.fd = 4};
+  usleep(20000);
+  return epoll_ctl(waited_at, EPOLL_CTL_ADD, e, &found) ? given : NULL;
+}
+static void added(void) {
+  pthread_t other;
+  struct epoll_event found = {.data.fd = 0};
+  struct itimerspec late = {{0, 0}, {1000, 0}};
+  waited_at = epoll_create1(0);
+  t = timerfd_create(CLOCK_MONOTONIC, 0);
+  e = eventfd(0, 0);
+  SAY(timerfd_settime(t, 0, &late, NULL));
+  pthread_create(&other, NULL, adds, NULL);
+  SAY(epoll_wait(waited_at, &found, 1, 60));
+  pthread_join(other, NULL);
+  pthread_create(&other, NULL, adds_another, NULL);
+  SAY(epoll_wait(waited_at, &found, 1, 60));
+  pthread_join(other, NULL);
+  late = after(30, 0);
+  SAY(timerfd_settime(t, 0, &late, NULL));
+  SAY(epoll_wait(waited_at, &found, 1, 60000) + found.data.fd);
+}
+
 int main(void) {
   alone();
   together();
+  added();
   return 0;
 }

@@ -95,8 +95,6 @@ int main(void) {
   REFUSED(open_by_handle_at, EOPNOTSUPP);
   REFUSED(tee, EINVAL);
   REFUSED(vmsplice, EINVAL);
-  REFUSED(recvmmsg, ENOSYS);
-  REFUSED(sendmmsg, ENOSYS);
   REFUSED(sockatmark, ENOSYS);
   REFUSED(bindresvport, ENOSYS);
   REFUSED(setns, ENOSYS);
