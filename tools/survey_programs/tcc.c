@@ -1,0 +1,5 @@
+int printf(const char *, ...);
+int main(void) {
+  printf("hi\n");
+  return 0;
+}
