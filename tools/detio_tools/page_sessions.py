@@ -34,6 +34,10 @@ LEFT_OUT = ".."
 SECONDS = 180
 # How many lines of what was printed a fault has.
 SHOWN = 40
+# What has tools print something else than on a terminal of the reader's: pytest does not cut its lines where CI is set.
+PRINTS_OTHERWISE = frozenset([
+    "BUILD_NUMBER", "CARGO_TERM_COLOR", "CI", "CLICOLOR_FORCE", "COLUMNS", "FORCE_COLOR", "GITHUB_ACTIONS", "LINES",
+    "NO_COLOR", "PYTEST_ADDOPTS", "PY_COLORS", "RUST_BACKTRACE", "TERM"])
 # What a command is run by: it finds the status of the one before, and leaves its own; both of its streams are kept.
 STEP = """doc_runs_text=$(cat {kept}/{at}.command)
 (exit "$doc_runs_last"); eval "$doc_runs_text" > {kept}/{at}.printed 2>&1 < /dev/null
@@ -218,9 +222,7 @@ class Room:
 
     def run_shell(self, script: str, here: pathlib.Path) -> None:
         """Has a shell run this script in a folder, and takes away what it left in the background."""
-        # Without what would have a tool or the program do something else.
-        ours = {name: it for name, it in os.environ.items() if not name.startswith("DETIO") or name in runs.PASSED}
-        shell = subprocess.Popen(["bash", "-c", script], cwd=here, env={**ours, "LC_ALL": "C.UTF-8"},
+        shell = subprocess.Popen(["bash", "-c", script], cwd=here, env={**plain_environment(), "LC_ALL": "C.UTF-8"},
                                  stdin=subprocess.DEVNULL, stdout=subprocess.DEVNULL, stderr=subprocess.DEVNULL,
                                  start_new_session=True)
         with contextlib.suppress(subprocess.TimeoutExpired):
@@ -228,6 +230,12 @@ class Room:
         with contextlib.suppress(ProcessLookupError):
             os.killpg(shell.pid, signal.SIGKILL)
         shell.wait()
+
+
+def plain_environment() -> dict[str, str]:
+    """The environment without what would have a tool or the program do, or print, something else."""
+    return {name: it for name, it in os.environ.items()
+            if name in runs.PASSED or not name.startswith("DETIO") and name not in PRINTS_OTHERWISE}
 
 
 def ended(kept: pathlib.Path, at: int) -> tuple[int | None, str]:

@@ -184,6 +184,12 @@ class Pages(unittest.TestCase):
         self.assertEqual(self.counts(page).faults, [])
         self.assertTrue((self.folder / "examples/a.script").exists())
 
+    def test_the_environment_is_plain(self) -> None:
+        page = "    $ echo \"$CI,$COLUMNS,$DETIO_BUILT,$DETIO_WRONG,$OTHER\"\n    ,,,kept,kept\n"
+        ours = {"CI": "true", "COLUMNS": "9", "DETIO_BUILT": "here", "DETIO_WRONG": "kept", "OTHER": "kept"}
+        with mock.patch.dict("os.environ", ours):
+            self.assertEqual(self.counts(page).faults, [])
+
     def test_a_mark_needs_no_other_line(self) -> None:
         block, = blocks_of("Text\n<!-- not run: why -->\n    $ a\n    b\n    \n\n    c\n\nText\n")
         self.assertEqual(block.commands[0].wanted, ("b", "", "", "c"))
