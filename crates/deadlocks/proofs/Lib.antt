@@ -1,1 +1,4 @@
 pub mod Moments
+pub mod Writes
+pub mod Blocking
+pub mod Stuck

@@ -9,9 +9,28 @@
 //! A history does not say what a blocked call moved. A write that is blocked has filled what room
 //! there was, and no room is made before a call is answered. So its first turn since then counts as
 //! one that moved bytes, and no later one does.
+//!
+//! The law [`only_patience_answers`] says what such a moment means in the sequential object. There
+//! each of these calls is blocked again, whatever its patience, and its turn leaves the state as it
+//! is. So does each further turn, until one of the calls has no patience left. `specs/Laws.antt` is
+//! where to begin. The law needs of a history that the sequential object answers it, and that a call
+//! which is blocked is made again at the next turn of its thread.
+//!
+//! ```rust
+//! ghost use Rattle.deadlocks.specs.Laws.{OnlyPatience};
+//!
+//! // What a proof about a moment that was found may take as known.
+//! fn law()
+//!     ensures { OnlyPatience }
+//! {
+//!     deadlocks::only_patience_answers();
+//! }
+//! ```
 #![tactic(auto)]
 
 mod blocked;
+mod laws;
 mod places;
 
 pub use blocked::{BlockedCall, BlockedCalls, blocked_for_good};
+pub use laws::only_patience_answers;

@@ -38,7 +38,7 @@ use Rattle.sequential_object.specs.declared.decision.Decision.{Decision}
 use Rattle.sequential_object.specs.declared.decision.Decision.TheVariants as decision
 use Rattle.sequential_object.specs.declared.decision.Deed.TheVariants as deed
 use Rattle.sequential_object.specs.declared.decision.Seen.{Seen}
-use Rattle.deadlock_laws.proofs.Writes.{Grows, HasNoRoom, IsFull, content_after, found_kept, tied_same}
+use Rattle.deadlocks.proofs.Writes.{Grows, HasNoRoom, IsFull, content_after, found_kept, tied_same}
 
 -- what a blocked turn of a write leaves
 abbrev pub IsLeft : State → ℤ → List ℕ → State → Moved → Type 0

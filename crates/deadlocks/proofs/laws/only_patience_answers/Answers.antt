@@ -1,5 +1,5 @@
-use Rattle.deadlock_laws.proofs.Stuck.{all_stuck, stuck_more}
-use Rattle.deadlock_laws.proofs.laws.only_patience_answers.Goals as goal
+use Rattle.deadlocks.proofs.Stuck.{all_stuck, stuck_more}
+use Rattle.deadlocks.proofs.laws.only_patience_answers.Goals as goal
 
 pub returns-clause-answered : goal.returns-clause-answered
 returns-clause-answered c = λ settings history last calls legal again leads stuck.

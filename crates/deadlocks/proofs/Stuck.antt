@@ -31,10 +31,10 @@ use Rattle.sequential_object.specs.Waiting.{AgainMovesInParts, EndsMatch, WaitsI
 use Rattle.deadlocks.specs.Blocked.{are_still, are_stuck, has_turn, is_blocked, is_of, may_move}
 use Rattle.deadlocks.specs.Blocked.{since_move, since_reply, still_turns, writes}
 use Rattle.deadlocks.specs.declared.blocked.BlockedCall.{BlockedCall}
-use Rattle.deadlock_laws.specs.Laws.{IsStuck, Leads, MakesAgain, Moment, after_turn}
-use Rattle.deadlock_laws.specs.Laws.{blocked_call, is_held, start, turn_at}
-use Rattle.deadlock_laws.proofs.Blocking.{blocked_write, of_write}
-use Rattle.deadlock_laws.proofs.Writes.{Grows, IsFull, full_blocks, grown_full}
+use Rattle.deadlocks.specs.Laws.{IsStuck, Leads, MakesAgain, Moment, after_turn}
+use Rattle.deadlocks.specs.Laws.{blocked_call, is_held, start, turn_at}
+use Rattle.deadlocks.proofs.Blocking.{blocked_write, of_write}
+use Rattle.deadlocks.proofs.Writes.{Grows, IsFull, full_blocks, grown_full}
 
 -- ## Rows
 

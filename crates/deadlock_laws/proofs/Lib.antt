@@ -1,3 +1,0 @@
-pub mod Writes
-pub mod Blocking
-pub mod Stuck
