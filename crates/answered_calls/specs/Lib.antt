@@ -4,3 +4,5 @@ pub mod Ways
 pub mod Seen
 pub mod Steps
 pub mod Blocked
+pub mod Operands
+pub mod OperandsSeen

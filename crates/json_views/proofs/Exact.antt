@@ -3,8 +3,8 @@ use Rattle.std.proofs.Common.{◌≡◌, ℕ, ℤ, pos, negsuc, Bool, true, fals
 use Rattle.std.proofs.Common.{Ordering, Less, Equal, Greater, nat_cmp, if◌then◌else◌, codes, map, refl}
 use Rattle.std.specs.Cmp.Lexicographic.{slice_cmp}
 use Rattle.std.specs.Ordering.{match_ordering}
-use Rattle.call_operands.specs.Operands as said
-use Rattle.call_operands.specs.Operands.{NamedSaid, Said, operands_of}
+use Rattle.answered_calls.specs.Operands as said
+use Rattle.answered_calls.specs.Operands.{NamedSaid, Said, operands_of}
 use Rattle.posix_terms.specs.Calls.{Call}
 use Rattle.posix_terms.specs.Errors.{name_of}
 use Rattle.posix_terms.specs.Replies.{kind_code}

@@ -1,8 +1,8 @@
 -- Operands put one after another are put together.
 use Rattle.std.proofs.Common.{◌≡◌, ◌++◌, ℕ, ℤ, List, Option, Some, None, map, refl}
 use Rattle.std.specs.Borrow.{Bor}
-use Rattle.call_operands.specs.Seen.{operand_seen}
-use Rattle.call_operands.specs.declared.value.Operand.{Operand}
+use Rattle.answered_calls.specs.OperandsSeen.{operand_seen}
+use Rattle.answered_calls.specs.declared.operand.Operand.{Operand}
 use Rattle.serde_json.specs.Data.{Members}
 use Rattle.json_views.specs.Calls.{member_of}
 use Rattle.json_views.specs.Objects.{Member, with_members}

@@ -1,8 +1,8 @@
 -- Believed: a contract of a command stands on it.
 -- What a call was asked and what it got, in JSON.
 use Rattle.std.specs.Prelude.{ℕ, ℤ, Bool, true, false, List, [], ◌∷◌, ◌++◌, codes, map}
-use Rattle.call_operands.specs.Operands as said
-use Rattle.call_operands.specs.Operands.{NamedSaid, Said, operands_of}
+use Rattle.answered_calls.specs.Operands as said
+use Rattle.answered_calls.specs.Operands.{NamedSaid, Said, operands_of}
 use Rattle.posix_terms.specs.Calls.{Call}
 use Rattle.posix_terms.specs.Errors.{name_of}
 use Rattle.posix_terms.specs.Replies.{kind_code}

@@ -1,12 +1,12 @@
 ghost use Rattle.std.specs.Prelude.{◌≡◌, IfOk, OnOk, map};
-ghost use Rattle.call_operands.specs.Seen.{operand_seen, value_seen};
+ghost use Rattle.answered_calls.specs.OperandsSeen.{operand_seen, value_seen};
 ghost use Rattle.serde_json.specs.View.{members_view, view};
 ghost use Rattle.json_views.specs.Calls.{arguments_value, member_of, said_value};
 ghost use Rattle.json_views.specs.Objects.{with_members};
 
 use crate::flags::flags_value;
 use crate::values::{hex_value, text_value};
-use call_operands::{Operand, OperandValue, operands};
+use answered_calls::{Operand, OperandValue, operands};
 use posix_terms::Call;
 use serde_json::{Map, Value, put};
 use std::alloc::{AllocError, Global};

@@ -2,8 +2,8 @@
 use Rattle.std.proofs.Common.{◌≡◌, ◌++◌, ℕ, ℤ, List, Option, Some, None, append_assoc, append-nil}
 use Rattle.std.specs.Borrow.{Bor}
 use Rattle.std.specs.List.{flat_map}
-use Rattle.call_operands.specs.Seen.{operand_seen}
-use Rattle.call_operands.specs.declared.value.Operand.{Operand}
+use Rattle.answered_calls.specs.OperandsSeen.{operand_seen}
+use Rattle.answered_calls.specs.declared.operand.Operand.{Operand}
 use Rattle.run_views.specs.Calls.{operand_text}
 
 abbrev texts_of : Option (Operand ℤ (Bor (List ℕ))) → List ℕ

@@ -5,8 +5,8 @@ use Rattle.std.specs.Prelude.{ℕ, ℤ, ◌&&◌, Bool, true, false, not, List, 
 use Rattle.std.specs.Prelude.{nat_le, nat_lt, ◌==◌, if◌then◌else◌}
 use Rattle.std.specs.Fmt.{signed_decimal}
 use Rattle.std.specs.List.{flat_map, list_all}
-use Rattle.call_operands.specs.Operands as said
-use Rattle.call_operands.specs.Operands.{NamedSaid, Said, operands_of}
+use Rattle.answered_calls.specs.Operands as said
+use Rattle.answered_calls.specs.Operands.{NamedSaid, Said, operands_of}
 use Rattle.posix_terms.specs.Calls.{Call, kind_of, word_of}
 use Rattle.posix_terms.specs.declared.call.OpenFlags.{OpenFlags}
 use Rattle.command_texts.specs.Transcripts.{◌+++◌, data_text}

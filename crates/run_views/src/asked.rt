@@ -1,13 +1,13 @@
 ghost use Rattle.std.specs.Prelude.{◌≡◌, ◌++◌, OnOk};
 ghost use Rattle.std.specs.List.{flat_map};
-ghost use Rattle.call_operands.specs.Seen.{operand_seen, value_seen};
+ghost use Rattle.answered_calls.specs.OperandsSeen.{operand_seen, value_seen};
 ghost use Rattle.run_views.specs.Calls.{asked_text, operand_text, operands_text, said_text};
 
 use crate::operands::{
     push_bytes_operand, push_flags_operands, push_number_operand, push_path_operand,
     push_word_operand,
 };
-use call_operands::{Operand, OperandValue, operands};
+use answered_calls::{Operand, OperandValue, operands};
 use command_texts::push_word;
 use posix_terms::Call;
 use std::alloc::AllocError;

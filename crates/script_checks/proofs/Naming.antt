@@ -3,8 +3,8 @@ use Rattle.std.proofs.Common.{◌≡◌, ℕ, ◌+◌, Bool, true, false, ◌||�
 use Rattle.std.proofs.Common.{map, Option, Some, None, is_some, refl, ap, ◌∙◌, if◌then◌else◌}
 use Rattle.std.specs.Borrow.{Bor}
 use Rattle.std.specs.List.{list_any}
-use Rattle.call_operands.specs.Seen.{operand_seen}
-use Rattle.call_operands.specs.declared.value.Operand.{Operand}
+use Rattle.answered_calls.specs.OperandsSeen.{operand_seen}
+use Rattle.answered_calls.specs.declared.operand.Operand.{Operand}
 use Rattle.thread_scripts.specs.declared.line.Data.{Data}
 use Rattle.thread_scripts.specs.declared.line.Number.{Number}
 use Rattle.script_checks.specs.Sharing.{fixed_operand, fixed_seen, is_number, operand_naming}

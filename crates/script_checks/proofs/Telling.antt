@@ -12,8 +12,8 @@ use Rattle.std.proofs.lemmas.List.Elements.{All-nil, All-push}
 use Rattle.std.proofs.lemmas.List.Folds.{list_any-append, list_any_more}
 use Rattle.std.proofs.lemmas.Map.Keys.{IsDistinct-push}
 use Rattle.std.proofs.lemmas.Option.{get_or_from_slice_get, slice_get_within}
-use Rattle.call_operands.specs.Seen.{operand_seen}
-use Rattle.call_operands.specs.declared.value.Operand.{Operand}
+use Rattle.answered_calls.specs.OperandsSeen.{operand_seen}
+use Rattle.answered_calls.specs.declared.operand.Operand.{Operand}
 use Rattle.thread_scripts.specs.declared.line.Data.{Data}
 use Rattle.thread_scripts.specs.declared.line.Line.{Line}
 use Rattle.thread_scripts.specs.declared.line.Number.{Number}

@@ -5,10 +5,10 @@ use Rattle.std.specs.Prelude.{length, map, Option, Some, None, if◌then◌else�
 use Rattle.std.specs.Borrow.{Bor}
 use Rattle.std.specs.List.{IsDistinct, list_any}
 use Rattle.std.specs.Ordering.{int_eq}
-use Rattle.call_operands.specs.Operands as said
-use Rattle.call_operands.specs.Operands.{NamedSaid, operands_of}
-use Rattle.call_operands.specs.Seen.{named_seen}
-use Rattle.call_operands.specs.declared.value.Operand.{Operand}
+use Rattle.answered_calls.specs.Operands as said
+use Rattle.answered_calls.specs.Operands.{NamedSaid, operands_of}
+use Rattle.answered_calls.specs.OperandsSeen.{named_seen}
+use Rattle.answered_calls.specs.declared.operand.Operand.{Operand}
 use Rattle.thread_scripts.specs.declared.line.Data.{Data}
 use Rattle.thread_scripts.specs.declared.line.Line.{Line}
 use Rattle.thread_scripts.specs.declared.line.Line.TheVariants as line

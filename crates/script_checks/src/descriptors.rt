@@ -5,7 +5,7 @@ ghost use Rattle.script_checks.specs.Sharing.{first_use_from, fixed_descriptors,
 ghost use Rattle.script_checks.specs.Sharing.{has_number, is_number, names, naming_from};
 ghost use Rattle.script_checks.specs.Sharing.{operand_naming};
 
-use call_operands::{Operand, OperandValue, operands};
+use answered_calls::{Operand, OperandValue, operands};
 use std::alloc::{AllocError, Global};
 use thread_scripts::{Data, Line, Number, Script};
 

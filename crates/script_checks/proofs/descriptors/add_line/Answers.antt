@@ -1,6 +1,6 @@
 use Rattle.std.proofs.lemmas.Result.{on_ok_weaker}
 use Rattle.std.proofs.Common.{◌≡◌, ◌∙◌, ap, sym, map, ◌++◌}
-use Rattle.call_operands.specs.Seen.{operand_seen}
+use Rattle.answered_calls.specs.OperandsSeen.{operand_seen}
 use Rattle.script_checks.specs.Sharing.{fixed_descriptors, fixed_operand}
 use Rattle.script_checks.proofs.Telling.{added_operands}
 use Rattle.script_checks.proofs.descriptors.add_line.Goals as goal

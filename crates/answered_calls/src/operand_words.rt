@@ -1,6 +1,6 @@
 // The words of scripts for what is no number, path, bytes or flag.
 ghost use Rattle.std.specs.Prelude.{◌≡◌};
-ghost use Rattle.call_operands.specs.Operands.{access_word, how_word, status_flags, whence_word};
+ghost use Rattle.answered_calls.specs.Operands.{access_word, how_word, status_flags, whence_word};
 
 use posix_terms::{Access, OpenFlags, ShutdownHow, Whence};
 

@@ -2,12 +2,12 @@
 -- What contracts see of the operands of a call, which borrow from it.
 use Rattle.std.specs.Prelude.{◌≡◌, List, [], ◌∷◌, ◌++◌, Option, Some, None}
 use Rattle.std.specs.Borrow.{Bor}
-use Rattle.call_operands.specs.Operands as said
-use Rattle.call_operands.specs.Operands.{NamedSaid, Said}
-use Rattle.call_operands.specs.declared.value.Operand.{Operand}
-use Rattle.call_operands.specs.declared.value.OperandValue.{OperandValue}
-use Rattle.call_operands.specs.declared.value.OperandValue.TheVariants as value
-use Rattle.call_operands.specs.declared.value.Operands.{Operands}
+use Rattle.answered_calls.specs.Operands as said
+use Rattle.answered_calls.specs.Operands.{NamedSaid, Said}
+use Rattle.answered_calls.specs.declared.operand.Operand.{Operand}
+use Rattle.answered_calls.specs.declared.operand.OperandValue.{OperandValue}
+use Rattle.answered_calls.specs.declared.operand.OperandValue.TheVariants as value
+use Rattle.answered_calls.specs.declared.operand.Operands.{Operands}
 
 -- what an operand says
 abbrev pub value_seen : {N T : Type 0} → OperandValue N (Bor T) → Said N T

@@ -1,11 +1,11 @@
 ghost use Rattle.std.specs.Prelude.{◌≡◌, ◌∷◌, []};
-ghost use Rattle.call_operands.specs.Operands as said;
-ghost use Rattle.call_operands.specs.Operands.{bytes_said, descriptor_said, flags_said};
-ghost use Rattle.call_operands.specs.Operands.{operands_of};
-ghost use Rattle.call_operands.specs.Seen.{AreInOrder, named_seen, operands_seen};
+ghost use Rattle.answered_calls.specs.Operands as said;
+ghost use Rattle.answered_calls.specs.Operands.{bytes_said, descriptor_said, flags_said};
+ghost use Rattle.answered_calls.specs.Operands.{operands_of};
+ghost use Rattle.answered_calls.specs.OperandsSeen.{AreInOrder, named_seen, operands_seen};
 
-use crate::value::{Operand, OperandValue, Operands};
-use crate::words::{access_word, how_word, status_flags, whence_word};
+use crate::operand::{Operand, OperandValue, Operands};
+use crate::operand_words::{access_word, how_word, status_flags, whence_word};
 use posix_terms::{Call, OpenFlags, SharedBytes};
 
 /// The operands of a call.

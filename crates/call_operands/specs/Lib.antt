@@ -1,2 +1,0 @@
-pub mod Operands
-pub mod Seen
