@@ -1,2 +1,16 @@
 pub mod Scripts
 pub mod Unmets
+pub mod Numerals
+pub mod Inner
+pub mod Printing
+pub mod Goodness
+pub mod HexBack
+pub mod Back
+pub mod Bytes
+pub mod LineTests
+pub mod Texts
+pub mod Follows
+pub mod Matching
+pub mod Places
+pub mod Numbers
+pub mod Shapes

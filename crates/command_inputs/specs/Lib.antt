@@ -2,3 +2,8 @@ pub mod Faults
 pub mod Sources
 pub mod LogTexts
 pub mod Expects
+pub mod Printed
+pub mod PrintedFronts
+pub mod PrintedLines
+pub mod PrintedReading
+pub mod PrintedWords
