@@ -14,6 +14,13 @@
 //! first unmet one has a line after the run's own last one. [`told_of`] replays for a command that
 //! prints something else of what the threads saw.
 //!
+//! Where [`record_over`] is asked to, it says of a run that stands still which threads are outside,
+//! in which call and line of which script, and who waits for whose turn, or for a lock that another
+//! keeps. It may also write each row of the run once its call has a reply. Both go to a device of
+//! their own, and what cannot be written there, or has no memory, is left out: a notice is no part
+//! of a run. Lines are those of the scripts' texts, counted from 1, and scripts are named by their
+//! numbers, as faults name them.
+//!
 //! ```rust
 //! use commands::{DEFAULTS, NoWatch, RunOptions, Source, View, plain_over};
 //!
@@ -40,12 +47,16 @@
 //! ```
 #![tactic(auto)]
 
+mod follower;
 mod make;
+mod notice;
+mod places;
 mod plain;
 mod ran;
 mod record;
 mod replay;
 mod show;
+mod standing;
 mod told;
 mod upgrade;
 

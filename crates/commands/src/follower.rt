@@ -10,7 +10,7 @@ use std::mem::replace;
 /// Which rows of a run were shown: each is, once its call has a reply. Without memory for them rows
 /// are left out. Contracts see how many it looked at.
 #[derive(Drop)]
-pub struct Follower {
+pub(crate) struct Follower {
     // how many rows were looked at
     seen: usize,
     // those among them that have no answer yet, in their order
@@ -27,7 +27,7 @@ impl Model for Follower {
 
 impl Follower {
     /// A follower of a run that begins. It takes no memory.
-    pub fn new(alloc: Global) -> Follower
+    pub(crate) fn new(alloc: Global) -> Follower
         ensures { result ≡ 0 }
     {
         Follower {

@@ -15,7 +15,7 @@ use std::time::Duration;
 /// while: a line for the run, and one for each thread that has not ended. Where the run is followed
 /// it says each row, too.
 #[derive(Drop)]
-pub struct Notices<'a, N: Write + Drop> {
+pub(crate) struct Notices<'a, N: Write + Drop> {
     /// Where the memory for what is said comes from.
     pub alloc: Global,
     /// How long no thread has asked a step or ended, where the run counts as standing still.
