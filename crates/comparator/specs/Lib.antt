@@ -1,2 +1,4 @@
 pub mod Comparison
 pub mod Counted
+pub mod Naming
+pub mod Renaming

@@ -4,7 +4,7 @@ use Rattle.std.specs.Prelude.{◌≡◌, ℕ, All, Bool, List, Option, Some, Non
 use Rattle.std.specs.Prelude.{if◌then◌else◌, unwrap_or}
 use Rattle.std.specs.List.{zip}
 use Rattle.posix_terms.specs.declared.transcript.Row.{Row}
-use Rattle.descriptor_names.specs.Renaming.{renamed}
+use Rattle.comparator.specs.Renaming.{renamed}
 use Rattle.explorer.specs.declared.observation.Observation.{Observation}
 use Rattle.command_inputs.specs.Expects.{IsAsExpected, IsFirstUnmetLine}
 use Rattle.command_inputs.specs.declared.expecting.UnmetLine.{UnmetLine}

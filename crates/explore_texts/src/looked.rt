@@ -6,7 +6,7 @@ use crate::judgement::Judgement;
 use crate::waits::are_unexpected;
 use answered_calls::blocked_lines;
 use command_inputs::{UnmetLine, first_unmet_line};
-use descriptor_names::renamed;
+use comparator::renamed;
 use explorer::Observation;
 use posix_terms::{Bytes, Transcripts};
 use std::alloc::{AllocError, Global};

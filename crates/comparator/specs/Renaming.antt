@@ -8,8 +8,8 @@ use Rattle.posix_terms.specs.declared.call.CallKind.TheVariants as kind
 use Rattle.posix_terms.specs.declared.reply.Reply.{Reply}
 use Rattle.posix_terms.specs.declared.reply.Reply.TheVariants as reply
 use Rattle.posix_terms.specs.declared.transcript.Row.{Row}
-use Rattle.descriptor_names.specs.Naming.{given, no_names, used}
-use Rattle.descriptor_names.specs.declared.naming.Names.{Names}
+use Rattle.comparator.specs.Naming.{given, no_names, used}
+use Rattle.comparator.specs.declared.naming.Names.{Names}
 
 -- ## Calls
 

@@ -3,7 +3,7 @@
 use Rattle.std.specs.Prelude.{ℕ, ◌+◌, ◌-◌, ◌^◌, ℤ, pos, negsuc, nat_lt, min, Option, Some, None}
 use Rattle.std.specs.Prelude.{replicate, slice_get, slice_set, if◌then◌else◌}
 use Rattle.posix_terms.specs.declared.limits.TheConstants.Limits.{DESCRIPTORS}
-use Rattle.descriptor_names.specs.declared.naming.Names.{Names}
+use Rattle.comparator.specs.declared.naming.Names.{Names}
 
 -- none was named
 abbrev pub no_names : Names

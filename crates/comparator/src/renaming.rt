@@ -1,7 +1,7 @@
 ghost use Rattle.std.specs.Prelude.{◌≡◌, IfOk};
-ghost use Rattle.descriptor_names.specs.Renaming.{first_renamed, gives, renamed, renamed_call};
-ghost use Rattle.descriptor_names.specs.Renaming.{renamed_reply, renamed_row, renamed_rows};
-ghost use Rattle.descriptor_names.specs.Renaming.{target_renamed, transfer_renamed};
+ghost use Rattle.comparator.specs.Renaming.{first_renamed, gives, renamed, renamed_call};
+ghost use Rattle.comparator.specs.Renaming.{renamed_reply, renamed_row, renamed_rows};
+ghost use Rattle.comparator.specs.Renaming.{target_renamed, transfer_renamed};
 
 use crate::naming::Names;
 use posix_terms::{Call, CallKind, Reply, Row, Transcript, Transcripts};

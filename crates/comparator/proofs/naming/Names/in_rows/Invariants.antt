@@ -1,6 +1,6 @@
 use Rattle.std.proofs.Common.{◌≡◌, ◌++◌, drop}
-use Rattle.descriptor_names.specs.Renaming.{renamed_rows}
-use Rattle.descriptor_names.proofs.naming.Names.in_rows.Given as goal
+use Rattle.comparator.specs.Renaming.{renamed_rows}
+use Rattle.comparator.proofs.naming.Names.in_rows.Given as goal
 
 abbrev pub invariant-loop-row : goal.invariant-loop-row
 invariant-loop-row l =

@@ -1,5 +1,5 @@
 ghost use Rattle.std.specs.Prelude.{◌≡◌};
-ghost use Rattle.descriptor_names.specs.Naming.{given, no_names, used};
+ghost use Rattle.comparator.specs.Naming.{given, no_names, used};
 
 use posix_terms::Limits;
 

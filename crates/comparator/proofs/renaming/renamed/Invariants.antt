@@ -1,6 +1,6 @@
 use Rattle.std.proofs.Common.{◌≡◌, ◌++◌, drop}
-use Rattle.descriptor_names.specs.Renaming.{renamed, renamed_threads}
-use Rattle.descriptor_names.proofs.renaming.renamed.Given as goal
+use Rattle.comparator.specs.Renaming.{renamed, renamed_threads}
+use Rattle.comparator.proofs.renaming.renamed.Given as goal
 
 abbrev pub invariant-loop-transcript : goal.invariant-loop-transcript
 invariant-loop-transcript l =
