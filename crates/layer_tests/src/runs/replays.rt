@@ -1,4 +1,4 @@
-use crate::plain_runs::{NotRun, SHORT_TEXT, SHORT_WRITE_LOG, scripts};
+use crate::runs::plain_runs::{NotRun, SHORT_TEXT, SHORT_WRITE_LOG, scripts};
 use call_machine::{History, PlainFault};
 use posix_terms::{Call, Errno, Outcome};
 use replayer::{ReplayFault, replay};

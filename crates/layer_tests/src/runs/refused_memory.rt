@@ -1,5 +1,5 @@
-use crate::driven::{CREATE, Driven, SETTINGS, machine, open, write};
-use crate::seen::{RowReply, replied, was_blocked};
+use crate::runs::driven::{CREATE, Driven, SETTINGS, machine, open, write};
+use crate::runs::seen::{RowReply, replied, was_blocked};
 use call_machine::Refused;
 use lock_machine::Phase;
 use posix_terms::{Access, Call, PackedRow, Step};

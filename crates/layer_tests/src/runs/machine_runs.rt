@@ -1,5 +1,5 @@
-use crate::plain_runs::{KindAndValue, NotRun, SHORT_TEXT, SHORT_WRITE_LOG, plain};
-use crate::seen::{RowReply, replied, was_blocked};
+use crate::runs::plain_runs::{KindAndValue, NotRun, SHORT_TEXT, SHORT_WRITE_LOG, plain};
+use crate::runs::seen::{RowReply, replied, was_blocked};
 use call_machine::{Plain, Stop};
 use posix_terms::{Errno, OutKind, PackedRow, Settings};
 use std::alloc::Global;
