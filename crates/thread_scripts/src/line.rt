@@ -1,6 +1,7 @@
-ghost use Rattle.std.specs.Prelude.{◌≡◌, ◌<◌, ℕ};
+ghost use Rattle.std.specs.Prelude.{◌≡◌, ◌<◌, ℕ, IfOk};
 
 use posix_terms::{Call, SharedBytes};
+use std::alloc::AllocError;
 use std::marker::Model;
 
 /// One of so many registers. Contracts see its number.
@@ -51,7 +52,7 @@ pub enum Number {
 }
 
 /// Bytes as a line gives them.
-#[derive(Debug, PartialEq, Eq, Drop)]
+#[derive(Clone, Debug, PartialEq, Eq, Drop)]
 pub enum Data {
     /// At most 32,767 bytes.
     Text(SharedBytes),
@@ -67,7 +68,7 @@ pub type CallLine = Call<Number, Data>;
 /// lie before that.
 ///
 /// Lines that a program makes in code become a script by [`Script::of`](crate::Script::of).
-#[derive(Debug, PartialEq, Eq, Drop)]
+#[derive(Clone, Debug, PartialEq, Eq, Drop)]
 pub enum Line {
     Call(CallLine),
     /// Work of so many units of the thread's clock. In a text at most 1,000,000, in code of any length.
@@ -101,4 +102,13 @@ pub enum Line {
     JumpIfFailed {
         place: usize,
     },
+}
+
+impl Line {
+    /// A copy of the line, which shares the bytes of its texts with it.
+    pub fn try_clone(&self) -> Result<Line, AllocError>
+        ensures { IfOk result (λ line. line ≡ self.now) }
+    {
+        self.clone()
+    }
 }
