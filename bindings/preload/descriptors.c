@@ -31,10 +31,13 @@ opened_file *opened_at(int fd) {
 /* The descriptor of the host of a number of ours, or the number itself where it is the host's. */
 int real_of(int fd) { return is_ours(fd) && fd != AT_FDCWD ? opened_at(fd)->real : fd; }
 
-/* Whether a number of the host is behind one of ours, so that the program does not have it. */
+/* Whether a number of the host is behind one of ours, or has a thread of ours come back from a wait, so that the
+ * program does not have it. */
 static bool is_behind(int real) {
   for (int fd = 0; real >= NATIVE && fd < NUMBERS; fd++)
     if (numbers[fd] && numbers[fd]->real == real) return true;
+  for (int i = 0; real >= NATIVE && i < SLOTS; i++)
+    if (slots[i].waker == real) return true;
   return false;
 }
 

@@ -129,14 +129,30 @@ static void bulk(void) {
   }
 }
 
+/* A program that closes all numbers, as daemons do, closes its own alone: a message that comes later is its own too. */
+static void closes_all(int first) {
+  struct sockaddr_in to = {.sin_family = AF_INET, .sin_addr = {htonl(INADDR_LOOPBACK)}};
+  socklen_t length = sizeof to;
+  for (int fd = 40; fd < 1100; fd++) (void)close(fd);
+  SAY(close(first)); /* so that a socket of the host may have a number that was closed */
+  int it = socket(AF_INET, SOCK_DGRAM, 0);
+  if (bind(it, (struct sockaddr *)&to, length) || getsockname(it, (struct sockaddr *)&to, &length)) exit(1);
+  SAY(sendto(it, "a message", 9, 0, (struct sockaddr *)&to, length));
+  READY(it, POLLIN, 5000);
+  SAY(recv(it, bytes, 20, 0));
+  SAY(close(it));
+}
+
 int main(void) {
   struct sockaddr_in to = {.sin_family = AF_INET, .sin_addr = {htonl(INADDR_LOOPBACK)}};
   setvbuf(stdout, NULL, _IOLBF, 0);
+  int first = open("/dev/null", O_RDONLY);
   int listener = socket(AF_INET, SOCK_STREAM, 0);
   if (bind(listener, (struct sockaddr *)&to, sizeof to) || listen(listener, 1)) return 1;
   pipes();
   pairs();
   waits(listener);
+  closes_all(first);
   bulk();
   return 0;
 }
