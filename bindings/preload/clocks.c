@@ -122,7 +122,10 @@ static int sleeps_for(const struct timespec *time, struct timespec *left) {
 EXPORT int clock_nanosleep(clockid_t clock, int how, const struct timespec *time, struct timespec *left) {
   NEXT(clock_nanosleep);
   OFF(next(clock, how, time, left));
-  if (clock != CLOCK_REALTIME && clock != CLOCK_MONOTONIC) return EINVAL;
+  if (clock == CLOCK_PROCESS_CPUTIME_ID)
+    uncovered("clock_nanosleep", "a sleep by the processor's time is not covered: refused, in a rerun too");
+  if (clock != CLOCK_REALTIME && clock != CLOCK_MONOTONIC && clock != CLOCK_BOOTTIME && clock != CLOCK_TAI)
+    return EINVAL;
   return how & TIMER_ABSTIME ? sleeps_until(clock, time) : sleeps_for(time, left);
 }
 EXPORT int nanosleep(const struct timespec *time, struct timespec *left) {

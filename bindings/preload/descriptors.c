@@ -10,7 +10,6 @@
 #include <stdlib.h>
 #include <string.h>
 #include <sys/file.h>
-#include <sys/ioctl.h>
 #include <sys/mman.h>
 #include <sys/resource.h>
 #include <sys/sendfile.h>
@@ -214,11 +213,13 @@ EXPORT void closefrom(int first) { (void)close_range(first < 0 ? 0 : (unsigned)f
 bool wait_for_door(int fd, short events) {
   const opened_file *f = opened_at(fd);
   struct pollfd door = {.fd = f->real, .events = events};
+  int64_t nanos = events == POLLIN && f->kind != HOST ? f->in_nanos : 0;
   if ((f->kind != STREAM && f->kind != LISTENER && (f->kind != HOST || !f->waits)) || f->nonblock) return true;
   for (;;) {
-    await_doors(&door, 1, -1);
-    if (door.revents || !was_cut()) return true;
-    if (is_interrupted(true)) return false;
+    await_doors(&door, 1, nanos ? nanos : -1);
+    if (door.revents) return true;
+    if (!was_cut()) return errno = EAGAIN, false;
+    if (is_interrupted(!nanos)) return false;
   }
 }
 
@@ -373,18 +374,22 @@ EXPORT ssize_t pwritev64(int fd, const struct iovec *parts, int count, off_t at)
   return pwritev(fd, parts, count, at);
 }
 /* .. in one of the ways that flags say: in none of them. */
+static int refused_way(const char *call, int how) {
+  uncovered(call, "%s with flags %d is not covered: refused, in a rerun too", call, how);
+  return errno = EOPNOTSUPP, -1;
+}
 EXPORT ssize_t preadv2(int fd, const struct iovec *parts, int count, off_t at, int how) {
   NEXT(preadv2);
   OFF(next(fd, parts, count, at, how));
   if (!is_ours(fd)) return next(fd, parts, count, at, how);
-  if (how) return errno = EOPNOTSUPP, -1;
+  if (how) return refused_way("preadv2", how);
   return at == -1 ? readv(fd, parts, count) : preadv(fd, parts, count, at);
 }
 EXPORT ssize_t pwritev2(int fd, const struct iovec *parts, int count, off_t at, int how) {
   NEXT(pwritev2);
   OFF(next(fd, parts, count, at, how));
   if (!is_ours(fd)) return next(fd, parts, count, at, how);
-  if (how) return errno = EOPNOTSUPP, -1;
+  if (how) return refused_way("pwritev2", how);
   return at == -1 ? writev(fd, parts, count) : pwritev(fd, parts, count, at);
 }
 EXPORT ssize_t preadv64v2(int fd, const struct iovec *parts, int count, off_t at, int how) {
@@ -417,7 +422,14 @@ EXPORT off_t lseek(int fd, off_t offset, int whence) {
   if (kind == NONE) return errno = EBADF, -1;
   if (kind >= EVENT) return 0;
   if (kind >= STREAM) return errno = ESPIPE, -1;
-  if (whence > SEEK_END) return errno = EINVAL, -1; /* SEEK_DATA, SEEK_HOLE */
+  struct stat status;
+  if (whence == SEEK_DATA || whence == SEEK_HOLE) { /* all of a file is data, as where the host knows of no holes */
+    if (fstat(fd, &status)) return -1;
+    if (offset < 0 || offset >= status.st_size) return errno = ENXIO, -1;
+    offset = whence == SEEK_DATA ? offset : status.st_size;
+    whence = SEEK_SET;
+  }
+  if (whence > SEEK_END) return errno = EINVAL, -1;
   return plain_call(&(detio_call){.kind = DETIO_LSEEK, .descriptor = fd, .number = offset, .choice = (uint32_t)whence},
                     NULL, 0, NULL, 0);
 }
@@ -451,7 +463,11 @@ EXPORT int fallocate(int fd, int how, off_t from, off_t count) {
   NEXT(fallocate);
   OFF(next(fd, how, from, count));
   if (!is_ours(fd)) return next(fd, how, from, count);
-  return how ? (errno = EOPNOTSUPP, -1) : on_host(fd, ASK_FALLOCATE, from, count);
+  if (!how) return on_host(fd, ASK_FALLOCATE, from, count);
+  const opened_file *f = opened_at(fd);
+  if (f->kind != HOST) return errno = f->kind == NONE ? EBADF : EOPNOTSUPP, -1;
+  return (int)ask(&(question){.what = ASK_FALLOCATE, .at = f->real, .a = from, .b = count, .bytes = &how,
+                              .length = sizeof how}, NULL, NULL);
 }
 EXPORT int fallocate64(int fd, int how, off_t from, off_t count) { return fallocate(fd, how, from, count); }
 #define ON_HOST(name, given, passed, what, a, b)  \
@@ -597,6 +613,7 @@ EXPORT int dup3(int fd, int to, int flags) {
   return r;
 }
 static int set_flags(int fd, long flags) {
+  if (flags & O_ASYNC) uncovered("O_ASYNC", "O_ASYNC is not covered: no signal says that a descriptor is ready");
   int r = (int)plain_call(&(detio_call){.kind = DETIO_SETFL, .descriptor = fd,
                                         .flags = (flags & O_APPEND ? DETIO_APPEND : 0) |
                                                  (flags & O_NONBLOCK ? DETIO_NONBLOCK : 0)}, NULL, 0, NULL, 0);
@@ -642,7 +659,9 @@ int control(int fd, int what, long given) {
   case F_SETFD: return closes_on_exec[fd] = given & FD_CLOEXEC, 0;
   case F_GETLK: case F_SETLK: case F_SETLKW: case F_OFD_GETLK: case F_OFD_SETLK: case F_OFD_SETLKW:
     return lock_record(fd, what, (struct flock *)given);
-  default: return errno = EINVAL, -1;
+  default:
+    uncovered("fcntl", "fcntl %d of descriptor %d is not covered: refused, in a rerun too", what, fd);
+    return errno = EINVAL, -1;
   }
 }
 #define CONTROLS(name)                               \
@@ -657,29 +676,6 @@ int control(int fd, int what, long given) {
   }
 CONTROLS(fcntl)
 CONTROLS(fcntl64)
-EXPORT int ioctl(int fd, unsigned long what, ...) {
-  va_list rest;
-  va_start(rest, what);
-  void *given = va_arg(rest, void *);
-  va_end(rest);
-  NEXT(ioctl);
-  OFF(next(fd, what, given));
-  if (!is_ours(fd)) return next(fd, what, given);
-  const opened_file *f = opened_at(fd);
-  if (f->kind == NONE) return errno = EBADF, -1;
-  if (what == FIOCLEX || what == FIONCLEX) return closes_on_exec[fd] = what == FIOCLEX, 0;
-  if (what == FIONBIO) return set_flags(fd, *(int *)given ? O_NONBLOCK : 0);
-  size_t room = what == TCGETS ? 36 : what == TIOCGWINSZ ? 8 : what == TIOCGPGRP || what == FIONREAD ? 4 : 0;
-  if (!room || f->kind == MEMORY || f->kind == PIPE || f->kind == SOCKET) return errno = ENOTTY, -1;
-  return (int)asks(ASK_IOCTL, f->real, NULL, (int64_t)what, given, room);
-}
-EXPORT int isatty(int fd) {
-  NEXT(isatty);
-  OFF(next(fd));
-  char settings_of_terminal[60];
-  return is_ours(fd) ? ioctl(fd, TCGETS, settings_of_terminal) == 0 : next(fd);
-}
-
 EXPORT int lockf(int fd, int what, off_t count) {
   NEXT(lockf);
   OFF(next(fd, what, count));

@@ -88,7 +88,10 @@ FILE *new_stream(int fd, const char *mode) {
   while (i < STREAMS && streams[i].file) i++;
   if (i < STREAMS) streams[i].file = (FILE *)&streams[i];
   unlock_run();
-  if (i == STREAMS) return errno = EMFILE, NULL;
+  if (i == STREAMS) {
+    uncovered("streams", "no room for one more FILE: %d are open: it fails, in a rerun too", STREAMS);
+    return errno = EMFILE, NULL;
+  }
   stream *s = &streams[i];
   s->fd = fd;
   s->lock = (pthread_mutex_t)PTHREAD_RECURSIVE_MUTEX_INITIALIZER_NP;

@@ -315,8 +315,11 @@ EXPORT int fstatfs(int fd, struct statfs *to) {
   NEXT(fstatfs);
   OFF(next(fd, to));
   if (!is_ours(fd)) return next(fd, to);
-  return opened_at(fd)->kind != HOST ? (errno = ENOSYS, -1)
-                                     : (int)asks(ASK_FSTATFS, real_of(fd), NULL, 0, to, sizeof *to);
+  enum kind kind = opened_at(fd)->kind;
+  if (kind == NONE) return errno = EBADF, -1;
+  if (kind == HOST) return (int)asks(ASK_FSTATFS, real_of(fd), NULL, 0, to, sizeof *to);
+  uncovered("fstatfs", "fstatfs of what is no file of the host is not covered: refused, in a rerun too");
+  return errno = ENOSYS, -1;
 }
 EXPORT int fstatfs64(int fd, struct statfs64 *to) { return fstatfs(fd, (struct statfs *)to); }
 static void as_statvfs(const struct statfs *from, struct statvfs *to) {
@@ -588,7 +591,10 @@ EXPORT DIR *opendir(const char *p) {
   NEXT(opendir);
   OFF(next(p));
   if (!asked_of_us(p)) return next(p);
-  if (in_memory(p)) return errno = ENOSYS, NULL; /* the tree in memory has no listings */
+  if (in_memory(p)) {
+    uncovered("opendir", "a listing of a directory below --mem is not covered: refused, in a rerun too");
+    return errno = ENOSYS, NULL;
+  }
   int fd = opens_at(AT_FDCWD, p, O_RDONLY | O_DIRECTORY | O_CLOEXEC, 0);
   return fd < 0 ? NULL : fdopendir(fd);
 }

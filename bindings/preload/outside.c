@@ -131,7 +131,7 @@ static long ask_open(const question *q, uint8_t *out) {
   case ASK_PREAD: return KERNEL(SYS_pread64, q->at, out, q->room, q->a);
   case ASK_PWRITE: return KERNEL(SYS_pwrite64, q->at, q->bytes, q->length, q->a);
   case ASK_FTRUNCATE: return KERNEL(SYS_ftruncate, q->at, q->a);
-  case ASK_FALLOCATE: return KERNEL(SYS_fallocate, q->at, 0, q->a, q->b);
+  case ASK_FALLOCATE: return KERNEL(SYS_fallocate, q->at, q->length ? *(const int *)q->bytes : 0, q->a, q->b);
   case ASK_FSYNC: return KERNEL(q->a ? SYS_fdatasync : SYS_fsync, q->at);
   case ASK_FLOCK: return KERNEL(SYS_flock, q->at, q->a | LOCK_NB);
   case ASK_LOCKED: memcpy(out, q->bytes, q->length); return KERNEL(SYS_fcntl, q->at, q->a, out);
@@ -141,9 +141,7 @@ static long ask_open(const question *q, uint8_t *out) {
   case ASK_LISTING: return listing(q->at, (long)q->a, out, q->room);
   case ASK_FGETXATTR: return KERNEL(SYS_fgetxattr, q->at, q->second, out, q->a);
   case ASK_FLISTXATTR: return KERNEL(SYS_flistxattr, q->at, out, q->a);
-  case ASK_IOCTL:
-    if (q->length) memcpy(out, q->bytes, q->length);
-    return KERNEL(SYS_ioctl, q->at, q->a, out);
+  case ASK_IOCTL: return call_ioctl(q, out);
   case ASK_SOCKNAME:
   case ASK_PEERNAME:
     r = KERNEL(q->what == ASK_SOCKNAME ? SYS_getsockname : SYS_getpeername, q->at, out, &length);

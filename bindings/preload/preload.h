@@ -379,6 +379,9 @@ long take_arrived(siginfo_t *to);   /* the number of one that came from outside,
 int taker(void);                    /* where all are parked: the thread that takes what comes from outside, or -1 */
 extern bool timer_is_set;           /* .. and so a signal will come */
 
+/* ioctls.c */
+long call_ioctl(const question *, uint8_t *out);
+
 /* alarms.c */
 long call_timer(long call, int64_t given, const void *in, uint8_t *out);
 

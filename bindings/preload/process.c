@@ -37,7 +37,9 @@ static void in_child(void) {
 void begin_processes(void) { (void)pthread_atfork(NULL, NULL, in_child); }
 static bool starts_none(const char *call) {
   if (run.replays) uncovered(call, "%s: a rerun starts no other process: refused", call);
-  else uncovered(call, "%s: what another process does is not recorded, and a rerun starts none", call);
+  else
+    uncovered(call, "%s: another process has no file or socket of the run, what it does is not recorded, and a rerun"
+              " starts none", call);
   return run.replays;
 }
 EXPORT pid_t fork(void) {

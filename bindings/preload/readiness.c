@@ -168,7 +168,10 @@ static bool await_memory(int64_t nanos) {
 
 int poll_all(struct pollfd *fds, size_t count, int64_t nanos, const unsigned *changes, unsigned seen) {
   struct pollfd doors[MOST_POLLED];
-  if (count > MOST_POLLED) return errno = EINVAL, -1;
+  if (count > MOST_POLLED) {
+    uncovered("poll", "poll of more than %d descriptors is not covered: refused, in a rerun too", MOST_POLLED);
+    return errno = EINVAL, -1;
+  }
   bool timed = has_timer(fds, count), over = nanos == 0, any_door;
   int64_t until = nanos < 0 ? -1 : now_for(timed) + nanos;
   for (;;) {

@@ -70,7 +70,10 @@ EXPORT int bind(int fd, const struct sockaddr *to, socklen_t length) {
   if (length < sizeof *in || in->sin_family != AF_INET) return errno = EAFNOSUPPORT, -1;
   if (in->sin_addr.s_addr == htonl(INADDR_ANY))
     uncovered("any", "a server of all addresses listens at 127.0.0.1 alone");
-  else if (!is_loopback(in)) return errno = EADDRNOTAVAIL, -1;
+  else if (!is_loopback(in)) {
+    uncovered("address", "a server of an address other than 127.0.0.1 is not covered: refused, in a rerun too");
+    return errno = EADDRNOTAVAIL, -1;
+  }
   /* Its port is asked for at once, and so it listens from here on. */
   return becomes(fd, &(detio_call){.kind = DETIO_TCP_LISTEN, .number = ntohs(in->sin_port)}, LISTENER);
 }
@@ -91,6 +94,8 @@ EXPORT int connect(int fd, const struct sockaddr *to, socklen_t length) {
   const struct sockaddr_in *in = (const struct sockaddr_in *)to;
   enum kind kind = opened_at(fd)->kind;
   if (kind == NET) return connect_net(fd, to, length);
+  if (kind == LISTENER)
+    uncovered("bound", "to connect a TCP socket that has an address is not covered: refused, in a rerun too");
   if (kind != SOCKET) return not_new(fd, EISCONN);
   if (length < sizeof *in || in->sin_family != AF_INET) return errno = EAFNOSUPPORT, -1;
   if (!is_loopback(in)) return becomes_net(fd) ? -1 : connect_net(fd, to, length);
@@ -217,7 +222,17 @@ EXPORT ssize_t send(int fd, const void *bytes, size_t count, int flags) {
   OFF(next(fd, bytes, count, flags));
   if (!is_ours(fd)) return next(fd, bytes, count, flags);
   if (opened_at(fd)->kind == NET) return send_net(fd, bytes, count, flags, NULL, 0);
-  return is_socket(fd) ? write(fd, bytes, count) : -1;
+  if (!is_socket(fd)) return -1;
+  if (flags & ~(MSG_NOSIGNAL | MSG_DONTWAIT | MSG_MORE | MSG_EOR | MSG_CONFIRM | MSG_DONTROUTE)) {
+    uncovered("send", "send with flags %d is not covered: refused, in a rerun too", flags);
+    return errno = EOPNOTSUPP, -1;
+  }
+  bool is_short = (flags & MSG_DONTWAIT) && !opened_at(fd)->nonblock;
+  if (is_short) (void)fcntl(fd, F_SETFL, O_NONBLOCK);
+  ssize_t n = write(fd, bytes, count);
+  int error = errno;
+  if (is_short) (void)fcntl(fd, F_SETFL, 0);
+  return errno = error, n;
 }
 EXPORT ssize_t sendto(int fd, const void *bytes, size_t count, int flags, const struct sockaddr *to, socklen_t length) {
   NEXT(sendto);
@@ -295,8 +310,16 @@ EXPORT int setsockopt(int fd, int level, int option, const void *value, socklen_
   NEXT(setsockopt);
   OFF(next(fd, level, option, value, length));
   if (!is_ours(fd)) return next(fd, level, option, value, length);
-  if (opened_at(fd)->kind == NET) return set_net(fd, level, option, value, length);
-  return is_socket(fd) ? 0 : -1;
+  opened_file *f = opened_at(fd);
+  if (f->kind == NET) return set_net(fd, level, option, value, length);
+  if (!is_socket(fd)) return -1;
+  const struct timeval *time = value;
+  if (level != SOL_SOCKET || length < sizeof *time) return 0;
+  if (option == SO_RCVTIMEO && f->kind != PIPE) f->in_nanos = time->tv_sec * (int64_t)1000000000 + time->tv_usec * 1000;
+  if ((option == SO_RCVTIMEO && f->kind == PIPE) || option == SO_SNDTIMEO)
+    uncovered("timeout", "how long a %s waits is not covered: it waits as long as it must, in a rerun too",
+              option == SO_SNDTIMEO ? "send" : "read of a socketpair");
+  return 0;
 }
 EXPORT int getsockopt(int fd, int level, int option, void *value, socklen_t *length) {
   NEXT(getsockopt);

@@ -71,6 +71,7 @@ CASES = (
     Case("events in parallel", ("@events",), ("--parallel",), input="input.txt", reruns=10),
     Case("timers", ("@timers",), reruns=10),
     Case("uncovered", ("@uncovered",), native=False),
+    Case("partly", ("@partly",), ("--mem", "/run"), native=False, reruns=2),
     Case("locks", ("@locks",)),
     Case("records", ("@records",), input="input.txt", reruns=3),
     Case("threads", ("@threads",)),
@@ -645,6 +646,27 @@ def quiet(trial: Trial) -> None:
         out, err = process.communicate(b"line\n")
         trial.check((process.returncode, out) == (0, b"over\n") and b"has the turn" not in err,
                     f"quiet: {script}: {out!r} {err!r}")
+
+
+# What is said of calls that the run covers, made in ways that it does not.
+PARTLY = (
+    "to connect a TCP socket that has an address", "a server of an address other than 127.0.0.1", "how long a send waits",
+    "ioctl 0x8912 of descriptor", "send with flags 1", "fcntl 9 of descriptor", "O_ASYNC", "preadv2 with flags 1",
+    "pwritev2 with flags 2", "poll of more than 64", "fstatfs of what is no file", "a listing of a directory below --mem",
+    "a sleep by the processor's time", "no room for one more FILE",
+)
+
+
+def in_part(trial: Trial) -> None:
+    """Each way of a call that is not covered has a line, in a run and in a rerun, with who called."""
+    folder = trial.room / "in-part"
+    make_inputs(folder)
+    run = trial.run("part.log", str(trial.room / "programs/partly"), folder=folder, options=("--mem", "/run"))
+    again = trial.rerun("part.log", folder=folder)
+    for way, ran in ("run", run), ("rerun", again):
+        for said in PARTLY:
+            lines = [it for it in ran.ours().split("; ") if said in it]
+            trial.check(len(lines) == 1 and "(at partly+0x" in lines[0], f"in-part: {way}: {said}: {lines} {ran.status}")
 
 
 def net(trial: Trial) -> None:
@@ -1226,7 +1248,7 @@ def compare_table(trial: Trial) -> None:
 OTHERS: dict[str, Callable[[Trial], None]] = {
     "table": compare_table, "closed": closed_program, "killed": killed, "cut": cut, "differing": differing, "statuses":
     statuses, "stuck": stuck, "diverges": diverges, "stops": stops, "computes": computing, "quiet": quiet, "net":
-    net, "passed": passed, "faults": faults, "each-fault": each_fault, "services": services,
+    net, "in-part": in_part, "passed": passed, "faults": faults, "each-fault": each_fault, "services": services,
     "own-identity": other_user, "strangers": strangers,
     "from-outside": from_outside, "by-chance": by_chance, "seeds": seeds,
     "early": early, "children": children, "goes-on": goes_on,

@@ -4,10 +4,12 @@
 
 #include <arpa/inet.h>
 #include <fcntl.h>
+#include <net/if.h>
 #include <netinet/in.h>
 #include <netinet/tcp.h>
 #include <poll.h>
 #include <pthread.h>
+#include <sys/ioctl.h>
 #include <sys/socket.h>
 #include <sys/uio.h>
 #include <unistd.h>
@@ -48,6 +50,44 @@ static void *serve(void *given) {
   return NULL;
 }
 
+/* How long a connection waits, what is sent without a wait, and what is asked of interfaces. */
+static void asks(int fd) {
+  struct ifreq it = {.ifr_name = "lo"};
+  SAY(ioctl(fd, SIOCGIFFLAGS, &it) + (it.ifr_flags & (IFF_LOOPBACK | IFF_UP)));
+  SAY(ioctl(fd, SIOCGIFINDEX, &it) + it.ifr_ifindex);
+  memset(it.ifr_name, '?', sizeof it.ifr_name);
+  SAY(ioctl(fd, SIOCGIFNAME, &it) + strcmp(it.ifr_name, "lo"));
+  strcpy(it.ifr_name, "none such");
+  SAY(ioctl(fd, SIOCGIFMTU, &it));
+}
+static void limits(void) {
+  struct sockaddr_in to = {.sin_family = AF_INET, .sin_addr.s_addr = htonl(INADDR_LOOPBACK)};
+  socklen_t length = sizeof to;
+  struct timeval soon = {0, 5000}, never = {0, 0};
+  char text[9];
+  int s = socket(AF_INET, SOCK_STREAM, 0), c = socket(AF_INET, SOCK_STREAM, 0), u = socket(AF_INET, SOCK_DGRAM, 0);
+  SAY(bind(s, (struct sockaddr *)&to, sizeof to));
+  SAY(listen(s, 1));
+  SAY(setsockopt(s, SOL_SOCKET, SO_RCVTIMEO, &soon, sizeof soon));
+  SAY(accept(s, NULL, NULL));
+  SAY(getsockname(s, (struct sockaddr *)&to, &length));
+  SAY(setsockopt(c, SOL_SOCKET, SO_RCVTIMEO, &soon, sizeof soon));
+  asks(c);
+  SAY(connect(c, (struct sockaddr *)&to, sizeof to));
+  SAY(recv(c, text, sizeof text, 0));
+  SAY(read(c, text, sizeof text));
+  int a = accept(s, NULL, NULL);
+  SAY(send(a, "abc", 3, MSG_DONTWAIT));
+  SAY(fcntl(a, F_GETFL) & O_NONBLOCK);
+  SAY(setsockopt(c, SOL_SOCKET, SO_RCVTIMEO, &never, sizeof never));
+  SAY(recv(c, text, 1, 0));
+  SAY(ioctl(c, FIONREAD, text) + *(int *)text);
+  SAY(recv(c, text, sizeof text, 0));
+  asks(c);
+  asks(u);
+  SAY(close(a) + close(c) + close(s) + close(u));
+}
+
 int main(void) {
   pthread_t clients[2], servers[2];
   struct sockaddr_in peer;
@@ -56,6 +96,7 @@ int main(void) {
   int value = 1;
   int s = socket(AF_INET, SOCK_STREAM | SOCK_CLOEXEC, 0);
   SAY(s);
+  limits();
   SAY(setsockopt(s, SOL_SOCKET, SO_REUSEADDR, &value, sizeof value));
   address = (struct sockaddr_in){.sin_family = AF_INET, .sin_addr.s_addr = htonl(INADDR_LOOPBACK)};
   SAY(bind(s, (struct sockaddr *)&address, sizeof address));
