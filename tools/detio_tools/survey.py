@@ -1,4 +1,5 @@
 """Programs of Debian, recorded once and rerun three times each: what tools/survey counts."""
+import concurrent.futures
 import os
 import pathlib
 import shlex
@@ -150,7 +151,7 @@ ALL = (
         "dnsmasq -k -p {port} -C /dev/null --no-resolv -u root --log-facility=- --bind-interfaces "
         "-a 127.0.0.1",
         chance=True,
-        asks="line x",
+        asks="datagram 12340100000100000000000009" + b"localhost".hex() + "0000010001",
     ),
     Program("socat", "socat TCP-LISTEN:{port},bind=127.0.0.1,reuseaddr STDOUT", asks='line hello\\n'),
     Program("iperf3", "iperf3 -s -1 -p {port} -B 127.0.0.1", chance=True, asks="iperf3"),
@@ -250,10 +251,11 @@ def ask(what: str, port: int) -> bytes:
     while time.monotonic() < until:
         try:
             return ask_now(what, port)
-        except ConnectionRefusedError:
+        except OSError as error:
+            refused = getattr(error, "reason", error)  # the library for the web has it in an error of its own
+            if not isinstance(refused, ConnectionRefusedError):
+                return b""
             time.sleep(0.05)
-        except OSError:
-            return b""
     return NOBODY
 
 
@@ -267,8 +269,14 @@ def ask_now(what: str, port: int) -> bytes:
             pass
         words = ["iperf3", "-c", "127.0.0.1", "-p", str(port), "-n", "100K"]
         return b"status %d" % subprocess.run(words, capture_output=True, timeout=20).returncode
+    said = what.partition(" ")[2]
+    if what.startswith("datagram "):
+        with socket.socket(socket.AF_INET, socket.SOCK_DGRAM) as one:
+            one.settimeout(10)
+            one.connect(("127.0.0.1", port))
+            one.send(bytes.fromhex(said))
+            return one.recv(4096)
     with socket.create_connection(("127.0.0.1", port), timeout=10) as stream:
-        said = what.partition(" ")[2]
         numbers = what.startswith("hex ")
         stream.sendall(bytes.fromhex(said) if numbers else said.encode().decode("unicode_escape").encode())
         if not numbers:
@@ -367,15 +375,29 @@ def reason(ran: list[programs.Ran]) -> str:
     return f"status {ran[-1].status}"
 
 
-def look(program: Program, trial: programs.Trial, kept: pathlib.Path, url: str) -> Found | None:
+@dataclass(frozen=True)
+class Recording:
+    """A log, and what each rerun of it must print and how it must end."""
+
+    program: Program
+    log: str
+    wanted: tuple[int, bytes, bytes]
+    ends: frozenset[int]
+
+    def is_repeated(self, ran: programs.Ran) -> bool:
+        """Whether a rerun was the same."""
+        return compared(ran, self.program, False)[1:] == self.wanted[1:] and ran.status in self.ends
+
+
+def look(program: Program, trial: programs.Trial, kept: pathlib.Path, url: str) -> tuple[Found, Recording] | None:
     """Runs a program alone, records it and reruns it; None where it is not on the machine."""
-    here, port = trial.room / "here" / "it", programs.free_port()
+    here, port, log = trial.room / "here" / "it", programs.free_port(), str(trial.room / f"{ALL.index(program)}.log")
     make_here(here)
     words = words_of(program, Places(kept, trial.room / "programs", here, port, url))
     if not (shutil.which(words[0]) or os.path.exists(words[0])):
         return None
     given = (here / "data.txt").read_bytes() if program.stdin else None
-    launcher = [str(trial.library / "detio-launch"), "run", "--log", str(trial.room / "it.log"), "--force", "--"]
+    launcher = [str(trial.library / "detio-launch"), "run", "--log", log, "--force", "--"]
 
     def run(given_words: list[str]) -> programs.Ran:
         if program.asks:
@@ -388,35 +410,61 @@ def look(program: Program, trial: programs.Trial, kept: pathlib.Path, url: str) 
     native = is_native(program, alone, recorded)
     shutil.rmtree(here)
     here.mkdir()
-    wanted = compared(recorded, program, False)
-    reruns = [trial.rerun(str(trial.room / "it.log"), folder=here) for _ in range(RERUNS)]
     killed = recorded.status in (128 + signal.SIGKILL, 128 + signal.SIGTERM)
     ends = {recorded.status, programs.LOG_ENDS} if killed else {recorded.status}
-    bad = [it for it in reruns if compared(it, program, False)[1:] != wanted[1:] or it.status not in ends]
+    recording = Recording(program, log, compared(recorded, program, False), frozenset(ends))
+    reruns = [trial.rerun(log, folder=here) for _ in range(RERUNS)]
+    bad = [it for it in reruns if not recording.is_repeated(it)]
     same = RERUNS - len(bad)
     silent = not (native and same == RERUNS) and not any(it.ours() for it in [recorded, *bad])
     why = "" if native and same == RERUNS else reason([*bad, recorded] if native else [recorded, *bad])
-    return Found(program.name, native, same, silent, why)
+    return Found(program.name, native, same, silent, why), recording
 
 
-def survey(names: list[str], trial: programs.Trial, show: Callable[[str], None]) -> list[Found]:
-    """Looks at all programs, or at these, and shows a row of each."""
+def rerun_all(recordings: list[Recording], rounds: int, jobs: int, trial: programs.Trial,
+              show: Callable[[str], None]) -> int:
+    """Reruns each so many times, one round after another, and shows each rerun that was not the same: how many."""
+    here = trial.room / "here" / "it"
+    shutil.rmtree(here, ignore_errors=True)
+    here.mkdir(parents=True)
+    made = bad = 0
+    try:
+        with concurrent.futures.ThreadPoolExecutor(jobs) as workers:
+            for number in range(rounds):
+                for it, ran in zip(recordings, workers.map(lambda it: trial.rerun(it.log, folder=here), recordings)):
+                    made += 1
+                    if not it.is_repeated(ran):
+                        bad += 1
+                        shutil.copy(it.log, f"{it.log}.{number}")
+                        show(f"round {number}: {it.program.name}: {reason([ran])}; its log is {it.log}.{number}")
+    except KeyboardInterrupt:
+        show("survey: stopped")
+    show(f"survey: {made} reruns of {len(recordings)} programs that were recorded as they are; {bad} were not the same")
+    return bad
+
+
+def survey(names: list[str], trial: programs.Trial, show: Callable[[str], None], rounds: int = 0,
+           jobs: int = 1) -> list[Found]:
+    """Looks at all programs, or at these, and shows a row of each; reruns those that pass so many times more."""
     kept = trial.room / "kept"
     make_kept(kept)
     programs.compile_tests(trial.room / "programs")
-    found, missing = [], []
+    found, missing, recordings = [], [], []
     with a_web() as url:
         for program in ALL:
             if names and program.name not in names:
                 continue
-            it = look(program, trial, kept, url)
-            if it:
-                found.append(it)
-                show(it.row())
+            seen = look(program, trial, kept, url)
+            if seen:
+                found.append(seen[0])
+                show(seen[0].row())
+                recordings += [seen[1]] if seen[0].passes() else []
             else:
                 missing.append(program.name)
     show(f"left out: {', '.join(missing) or 'nothing'}")
     passes, silent = sum(it.passes() for it in found), sum(it.silent for it in found)
     show(f"survey: {passes} of {len(found)} programs are recorded as they are and rerun {RERUNS} of {RERUNS}; "
          f"{silent} go wrong without a line")
+    if rounds:
+        rerun_all(recordings, rounds, jobs, trial, show)
     return found

@@ -4,6 +4,7 @@ import socket
 import sys
 import tempfile
 import threading
+import time
 import unittest
 
 from detio_tools import programs, survey
@@ -69,6 +70,42 @@ class Survey(unittest.TestCase):
         said = [programs.Ran(1, b"", b"x\n"), programs.Ran(2, b"", b"detio: a | line\ndetio: last | line\n")]
         self.assertEqual(survey.reason(said), "last / line")
         self.assertEqual(survey.reason(said[:1]), "status 1")
+
+    def test_rounds_of_reruns(self) -> None:
+        class Reruns(programs.Trial):
+            said = 0
+
+            def rerun(self, log: str, *words: str, folder: pathlib.Path) -> programs.Ran:
+                Reruns.said += 1
+                return programs.Ran(0, b"other" if Reruns.said == 4 else b"out", b"detio: why\n")
+
+        rows: list[str] = []
+        trial = Reruns(self.room, self.room)
+        logs = [str(self.room / "one.log"), str(self.room / "two.log")]
+        for log in logs:
+            pathlib.Path(log).write_bytes(b"")
+        programs_of = [survey.Program("one", "x"), survey.Program("two", "x")]
+        all_of = [survey.Recording(it, log, (0, b"out", b""), frozenset({0})) for it, log in zip(programs_of, logs)]
+        self.assertEqual(survey.rerun_all(all_of, 3, 1, trial, rows.append), 1)
+        self.assertEqual(rows, [
+            f"round 1: two: why; its log is {logs[1]}.1",
+            "survey: 6 reruns of 2 programs that were recorded as they are; 1 were not the same"])
+        self.assertTrue(pathlib.Path(f"{logs[1]}.1").exists())
+        self.assertFalse(all_of[0].is_repeated(programs.Ran(1, b"out", b"")))
+
+    def test_who_is_not_there_yet_is_asked_again(self) -> None:
+        port = programs.free_port()
+
+        def begins() -> None:
+            time.sleep(0.2)
+            with socket.create_server(("127.0.0.1", port)) as other, other.accept()[0] as stream:
+                stream.recv(999)
+                stream.sendall(b"HTTP/1.0 200 OK\r\n\r\nhello")
+
+        it = threading.Thread(target=begins)
+        it.start()
+        self.assertEqual(survey.ask("web", port), b"hello")
+        it.join()
 
     def test_a_server_is_asked_once_it_is_there(self) -> None:
         script = ("import socket, sys, time\ntime.sleep(.2)\ns = socket.create_server(('127.0.0.1', int(sys.argv[1])))\n"
