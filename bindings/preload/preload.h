@@ -160,6 +160,9 @@ static inline bool takes_part(void) {
   return true;
 }
 
+/* lookups.c */
+void *detio_find_next(void *handle, const char *name);
+#define dlsym detio_find_next /* the program's is another */
 /* The function of this name that the program would have called without us. */
 #define NEXT(name)                     \
   static __typeof__(&name) next;       \

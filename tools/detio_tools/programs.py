@@ -75,6 +75,7 @@ CASES = (
     Case("locks", ("@locks",)),
     Case("records", ("@records",), input="input.txt", reruns=3),
     Case("threads", ("@threads",)),
+    Case("lookups", ("@lookups",), native=False),
     Case("sockets", ("@sockets",)),
     Case("nets", ("@nets",)),
     Case("nets in parallel", ("@nets",), ("--parallel",)),
@@ -1186,15 +1187,62 @@ int main(void) { printf("%ld %ld %ld\\n", early[0], early[1], early[2]); return 
 """}
 
 
+# A library whose functions go on to those after it: it has one of its own, and looks up one that it has not.
+AFTER = {
+    "library.c": """#define _GNU_SOURCE
+#include <dlfcn.h>
+#include <time.h>
+#include <unistd.h>
+static int counted;
+pid_t getppid(void) {
+  counted++;
+  return ((pid_t(*)(void))dlsym(RTLD_NEXT, "getppid"))() + 1;
+}
+int calls_of(void) { return counted; }
+long after(void) {
+  struct timespec now;
+  ((int (*)(clockid_t, struct timespec *))dlsym(RTLD_NEXT, "clock_gettime"))(CLOCK_REALTIME, &now);
+  return now.tv_nsec;
+}
+""",
+    "program.c": """#include <stdio.h>
+#include <unistd.h>
+extern long after(void);
+extern int calls_of(void);
+int main(void) {
+  int own = getppid();
+  printf("%ld %d %d\\n", after(), own > 1, calls_of());
+  return 0;
+}
+"""}
+
+
+def after(trial: Trial) -> None:
+    """What a library looks up after itself is in the run, and its own functions are called once."""
+    folder = trial.room / "after"
+    make_inputs(folder)
+    make_with_library(folder, AFTER, "after")
+    run = trial.run("after.log", "./program", folder=folder)
+    trial.check(run.status == 0 and len(run.out.split()) == 3, f"after: {run.status} {run.out!r} {run.ours()}")
+    for number in range(3):
+        again = trial.rerun("after.log", folder=folder)
+        trial.check(again.alone() == run.alone(), f"after: rerun {number}: {again.status} {again.out!r} {again.ours()}")
+
+
+def make_with_library(folder: pathlib.Path, texts: dict[str, str], name: str) -> None:
+    """A program with a library of its own."""
+    for file, text in texts.items():
+        (folder / file).write_text(text, encoding="ascii")
+    compiler, library = os.environ.get("CC", "cc"), f"lib{name}.so"
+    subprocess.run([compiler, "-shared", "-fPIC", "-o", library, "library.c"], cwd=folder, check=True)
+    subprocess.run([compiler, "-o", "program", "program.c", f"./{library}", f"-Wl,-rpath,{folder}"], cwd=folder, check=True)
+
+
 def early(trial: Trial) -> None:
     """What a library does before the program begins, and after it ends, is in the run."""
     folder = trial.room / "early"
     make_inputs(folder)
-    for name, text in EARLY.items():
-        (folder / name).write_text(text, encoding="ascii")
-    compiler = os.environ.get("CC", "cc")
-    subprocess.run([compiler, "-shared", "-fPIC", "-o", "libearly.so", "library.c"], cwd=folder, check=True)
-    subprocess.run([compiler, "-o", "program", "program.c", "./libearly.so", f"-Wl,-rpath,{folder}"], cwd=folder, check=True)
+    make_with_library(folder, EARLY, "early")
     run = trial.run("early.log", "./program", folder=folder)
     trial.check(run.status == 0 and len(run.out.split()) == 4, f"early: {run.status} {run.ours()}")
     for number in range(3):
@@ -1251,7 +1299,7 @@ OTHERS: dict[str, Callable[[Trial], None]] = {
     net, "in-part": in_part, "passed": passed, "faults": faults, "each-fault": each_fault, "services": services,
     "own-identity": other_user, "strangers": strangers,
     "from-outside": from_outside, "by-chance": by_chance, "seeds": seeds,
-    "early": early, "children": children, "goes-on": goes_on,
+    "early": early, "after": after, "children": children, "goes-on": goes_on,
     "units": units, "sanitizers": sanitizers, "addresses": addresses, "few": few_addresses, "growing": growing,
     "long": long_log, "in-turn": in_turn,
     "numbers": closed_numbers, "hang": hang_of_pigz, "server": server, "web": web_server}
