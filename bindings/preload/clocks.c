@@ -197,13 +197,18 @@ EXPORT pid_t gettid(void) {
   OFF((pid_t)KERNEL(SYS_gettid, 0));
   return slots[me].tid = (pid_t)asks(ASK_NUMBER, 0, NULL, SYS_gettid, NULL, 0);
 }
+/* As the kernel answers: how many bytes. */
+ssize_t affinity(size_t size, void *to) {
+  size_t there = 0;
+  int64_t r = ask(&(question){.what = ASK_AFFINITY, .room = size < 1024 ? size : 1024}, to, &there);
+  return r < 0 ? -1 : (ssize_t)there;
+}
 EXPORT int sched_getaffinity(pid_t pid, size_t size, cpu_set_t *to) {
   NEXT(sched_getaffinity);
   OFF(next(pid, size, to));
-  if (size > 1024) memset((char *)to + 1024, 0, size - 1024);
-  size_t room = size < 1024 ? size : 1024, there = 0;
-  if (ask(&(question){.what = ASK_AFFINITY, .room = room}, to, &there) < 0) return -1;
-  memset((char *)to + there, 0, room - there);
+  ssize_t there = affinity(size, to);
+  if (there < 0) return -1;
+  memset((char *)to + there, 0, size - (size_t)there);
   return 0;
 }
 EXPORT int pthread_getaffinity_np(pthread_t thread, size_t size, cpu_set_t *to) {

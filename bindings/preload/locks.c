@@ -2,12 +2,14 @@
 #define _GNU_SOURCE
 #include "preload.h"
 
+#include <fcntl.h>
 #include <linux/futex.h>
 #include <semaphore.h>
 #include <stdio.h>
 #include <string.h>
 #include <sys/random.h>
 #include <sys/resource.h>
+#include <sys/shm.h>
 #include <sys/syscall.h>
 #include <sys/sysinfo.h>
 #include <sys/time.h>
@@ -450,8 +452,17 @@ static bool makes_stranger(long n) {
   return n == SYS_clone || n == SYS_clone3 || n == SYS_fork || n == SYS_vfork || n == SYS_io_uring_setup;
 }
 /* .. and those that have a function here: whether this is one. */
-static bool is_function(long n, long a, long b, long *result) {
+static bool is_function(long n, long a, long b, long c, long d, long *result) {
   switch (n) {
+  case SYS_open: return *result = open((const char *)a, (int)b, (mode_t)c), true; /* as jemalloc does */
+  case SYS_openat: return *result = openat((int)a, (const char *)b, (int)c, (mode_t)d), true;
+  case SYS_read: return *result = read((int)a, (void *)b, (size_t)c), true;
+  case SYS_write: return *result = write((int)a, (const void *)b, (size_t)c), true;
+  case SYS_sched_getaffinity: return *result = affinity((size_t)b, (void *)c), true; /* as libnuma does */
+  case SYS_shmget: return *result = shmget((key_t)a, (size_t)b, (int)c), true;
+  case SYS_shmat: return *result = (long)shmat((int)a, (const void *)b, (int)c), true;
+  case SYS_shmdt: return *result = shmdt((const void *)a), true;
+  case SYS_shmctl: return *result = shmctl((int)a, (int)b, (void *)c), true;
   case SYS_gettid: return *result = gettid(), true;
   case SYS_getpid: return *result = getpid(), true;
   case SYS_close: return *result = close((int)a), true; /* as libuv does, of numbers of ours */
@@ -481,7 +492,7 @@ EXPORT long syscall(long n, ...) {
     if (n == SYS_futex) return futex((int *)a, (int)b, (int)c, (const struct timespec *)d);
     if (n == SYS_getrandom) return getrandom((void *)a, (size_t)b, (unsigned)c);
     if (n == SYS_tgkill) return tgkill((pid_t)a, (pid_t)b, (int)c);
-    if (is_function(n, a, b, &r)) return r;
+    if (is_function(n, a, b, c, d, &r)) return r;
     snprintf(kind, sizeof kind, "system call %ld", n);
     if (makes_stranger(n)) {
       uncovered(kind, "%s is not covered: refused, in a rerun too", kind);

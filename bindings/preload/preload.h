@@ -115,6 +115,7 @@ typedef struct {
   int poked;               /* one came to its thread of the host, which does not sleep now */
   unsigned handled, cut;   /* handlers that it ran, and those of them that have calls fail */
   pid_t tid;               /* its number, once it asked for it */
+  pid_t at_kernel;         /* .. and the one that it has at the host now */
 } slot;
 
 #define NEVER UINT64_MAX
@@ -217,6 +218,9 @@ void nap(int i);
 int others_alive(void);
 void finish_run(void);
 extern detio machine;
+
+/* clocks.c */
+ssize_t affinity(size_t size, void *to);
 
 /* locks.c */
 void move_on(int w);

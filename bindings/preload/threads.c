@@ -6,6 +6,7 @@
 #include <limits.h>
 #include <sched.h>
 #include <stdlib.h>
+#include <sys/syscall.h>
 #include <threads.h>
 
 /* The destructors of keys, which a thread runs itself, in the order of the keys. */
@@ -85,6 +86,7 @@ static void *run_thread(void *given) {
   unlock_run();
   inside--;
   me = s.slot;
+  slots[me].at_kernel = (pid_t)KERNEL(SYS_gettid, 0);
   thread_begins();
   pthread_cleanup_push(leave, (void *)(intptr_t)s.slot);
   result = s.begins(s.given);
@@ -101,6 +103,7 @@ static int take_slot(bool detached) {
   s->parked = s->joined = s->lacks = false;
   s->detached = detached;
   s->pushes = s->digest = 0;
+  s->tid = 0;
   forget_signals(i);
   return i;
 }

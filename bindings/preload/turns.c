@@ -495,6 +495,7 @@ void begin_turns(void) {
   for (size_t i = 0; i < run.threads; i++) slots[i].chance = run.seed * 1000 + i;
   slots[0].state = LIVE;
   slots[0].id = pthread_self();
+  slots[0].at_kernel = (pid_t)KERNEL(SYS_gettid, 0);
   me = 0;
 }
 

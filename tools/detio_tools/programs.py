@@ -76,6 +76,7 @@ CASES = (
     Case("records", ("@records",), input="input.txt", reruns=3),
     Case("threads", ("@threads",)),
     Case("lookups", ("@lookups",), native=False),
+    Case("shared", ("@shared",), input="input.txt"),
     Case("sockets", ("@sockets",)),
     Case("nets", ("@nets",)),
     Case("nets in parallel", ("@nets",), ("--parallel",)),
@@ -654,7 +655,7 @@ PARTLY = (
     "to connect a TCP socket that has an address", "a server of an address other than 127.0.0.1", "how long a send waits",
     "ioctl 0x8912 of descriptor", "send with flags 1", "fcntl 9 of descriptor", "O_ASYNC", "preadv2 with flags 1",
     "pwritev2 with flags 2", "poll of more than 64", "fstatfs of what is no file", "a listing of a directory below --mem",
-    "a sleep by the processor's time", "no room for one more FILE",
+    "shared memory that other processes have by a key", "a sleep by the processor's time", "no room for one more FILE",
 )
 
 

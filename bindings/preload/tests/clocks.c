@@ -89,6 +89,15 @@ int main(void) {
   SAY(getpid());
   SAY(getppid());
   SAY(gettid());
+  struct sched_param param;
+  SAY(sched_getaffinity(0, sizeof set, &set));
+  SAY(sched_setaffinity(gettid(), sizeof set, &set));
+  SAY(sched_getscheduler(gettid()));
+  SAY(sched_getparam(getpid(), &param));
+  SAY(sched_setscheduler(gettid(), SCHED_OTHER, &param));
+  SAY(sched_setparam(gettid(), &param));
+  SAY(sched_rr_get_interval(gettid(), &t));
+  SAY(setpriority(PRIO_PROCESS, (id_t)gettid(), getpriority(PRIO_PROCESS, (id_t)gettid())));
   SAY(syscall(SYS_gettid));
   SAY(syscall(SYS_getpid) == getpid());
   SAY(syscall(SYS_getppid) == getppid());
