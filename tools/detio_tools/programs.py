@@ -1130,6 +1130,8 @@ def exchanged(port: int, said: bytes, wanted: int) -> bytes:
 SERVICES = {
     "memcached": (("memcached", "-u", "nobody", "-U", "0", "-l", "127.0.0.1", "-t", "2", "-p"),
                   b"set a 0 0 5\r\nhello\r\nget a\r\n", b"STORED\r\nVALUE a 0 5\r\nhello\r\nEND\r\n"),
+    "redis-server": (("redis-server", "--save", "", "--bind", "127.0.0.1", "--port"),
+                     b"PING\r\nSET a 1\r\nGET a\r\n", b"+PONG\r\n+OK\r\n$1\r\n1\r\n"),
     "mosquitto": (("mosquitto", "-p"), b"\x10\x0c\0\x04MQTT\x04\x02\0<\0\0", b"\x20\x02\0\0")}
 
 
