@@ -7,6 +7,14 @@
 #include <sys/mman.h>
 #include <sys/syscall.h>
 
+/* Where a sanitizer looks, it is told what is in use. */
+#ifdef __SANITIZE_ADDRESS__
+#include <sanitizer/asan_interface.h>
+#else
+#define ASAN_POISON_MEMORY_REGION(at, size) ((void)(at), (void)(size))
+#define ASAN_UNPOISON_MEMORY_REGION(at, size) ((void)(at), (void)(size))
+#endif
+
 /* Blocks are powers of two, each with its size before it; those that are free of one power are a list. */
 enum { LEAST = 5, POWERS = 40, BEFORE = 16 };
 typedef struct { size_t power, used; } before;
@@ -44,6 +52,7 @@ void *detio_heap_malloc(size_t size) {
   int power = power_of(size + BEFORE);
   char *block = free_blocks[power];
   if (block) {
+    ASAN_UNPOISON_MEMORY_REGION(block, (size_t)1 << power);
     memcpy(&free_blocks[power], block + BEFORE, sizeof(void *));
   } else {
     if (!next_block || (size_t)(end - next_block) < (size_t)1 << power) return NULL;
@@ -52,6 +61,7 @@ void *detio_heap_malloc(size_t size) {
   }
   memcpy(block, &(before){(size_t)power, size}, BEFORE);
   heap_used += size;
+  ASAN_POISON_MEMORY_REGION(block + BEFORE + size, ((size_t)1 << power) - BEFORE - size);
   return block + BEFORE;
 }
 
@@ -64,9 +74,11 @@ static before before_of(const void *at) {
 void detio_heap_free(void *at) {
   if (!at) return;
   before here = before_of(at);
+  ASAN_UNPOISON_MEMORY_REGION(at, sizeof(void *));
   memcpy(at, &free_blocks[here.power], sizeof(void *));
   free_blocks[here.power] = (char *)at - BEFORE;
   heap_used -= here.used;
+  ASAN_POISON_MEMORY_REGION((char *)at - BEFORE, (size_t)1 << here.power);
 }
 
 void *detio_heap_calloc(size_t count, size_t size) {
@@ -82,6 +94,8 @@ void *detio_heap_realloc(void *at, size_t size) {
   if (size <= ((size_t)1 << here.power) - BEFORE) {
     memcpy((char *)at - BEFORE, &(before){here.power, size}, BEFORE);
     heap_used += size - here.used;
+    ASAN_UNPOISON_MEMORY_REGION(at, size);
+    ASAN_POISON_MEMORY_REGION((char *)at + size, ((size_t)1 << here.power) - BEFORE - size);
     return at;
   }
   void *new = detio_heap_malloc(size);

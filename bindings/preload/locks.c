@@ -479,7 +479,7 @@ static bool is_function(long n, long a, long b, long c, long d, long *result) {
   default: return false;
   }
 }
-EXPORT long syscall(long n, ...) {
+EXPORT TAKES_ALL long syscall(long n, ...) {
   va_list given;
   va_start(given, n);
   long a = va_arg(given, long), b = va_arg(given, long), c = va_arg(given, long);

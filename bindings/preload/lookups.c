@@ -23,6 +23,15 @@ __attribute__((visibility("hidden"))) void *detio_in_place(void *handle, const c
   return is_in(&own_code, ours) ? ours : NULL;
 }
 
+/* Where the library is made with a sanitizer, it comes before the sanitizer's own, whose functions are then behind ours:
+ * a thread that begins is known to it before it waits for its turn. Its allocator asks no clock while it holds its locks,
+ * since the processor's counts are questions of ours. It looks functions up before it can look at ours: so none is. */
+#ifdef __SANITIZE_ADDRESS__
+const char *__asan_default_options(void);
+EXPORT __attribute__((no_sanitize_address)) const char *__asan_default_options(void) {
+  return "verify_asan_link_order=0:detect_leaks=0:allocator_release_to_os_interval_ms=-1";
+}
+#else
 /* RTLD_NEXT is after who calls: so the C library's own function has our caller as its caller. */
 EXPORT __attribute__((naked)) void *dlsym(void *handle __attribute__((unused)),
                                           const char *name __attribute__((unused))) {
@@ -40,3 +49,4 @@ EXPORT __attribute__((naked)) void *dlsym(void *handle __attribute__((unused)),
           "1:\n\t"
           "jmp *detio_next_dlsym(%rip)");
 }
+#endif

@@ -30,6 +30,8 @@
 
 struct pollfd;
 #define EXPORT __attribute__((visibility("default")))
+/* It takes more arguments than it may have been given, as the C library's does. */
+#define TAKES_ALL __attribute__((no_sanitize_address))
 
 enum {
   SLOTS = 16,     /* threads that live at once, at the most */

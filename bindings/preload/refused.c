@@ -149,7 +149,7 @@ REFUSES(char *, NULL, ENOSYS, tmpnam_r, (char to[L_tmpnam]), (to))
 REFUSES(char *, NULL, ENOSYS, tempnam, (const char *folder, const char *prefix), (folder, prefix))
 
 /* A thread or a process that the C library does not know. */
-EXPORT int clone(int (*begins)(void *), void *stack, int flags, void *given, ...) {
+EXPORT TAKES_ALL int clone(int (*begins)(void *), void *stack, int flags, void *given, ...) {
   NEXT(clone);
   va_list rest;
   va_start(rest, given);

@@ -1,4 +1,7 @@
 #define _GNU_SOURCE
+#ifdef DETIO_COVERAGE
+#include "coverage.h"
+#endif
 #include "runs.h"
 
 #include <elf.h>

@@ -1,5 +1,5 @@
-/* Segments of shared memory that have no key: this process alone has them, and the children that a recording starts. Their
- * numbers are ours, the same in each run. */
+/* Segments of shared memory that have no key: this process alone has them, and the children that a recording starts.
+ * Their numbers are ours, the same in each run. */
 #define _GNU_SOURCE
 #include "preload.h"
 

@@ -203,12 +203,12 @@ def make_inputs(folder: pathlib.Path) -> None:
         os.utime(path, (1_700_000_000, 1_700_000_000))
 
 
-def compile_tests(to: pathlib.Path) -> None:
-    """Our own programs."""
+def compile_tests(to: pathlib.Path, *more_flags: str) -> None:
+    """Our own programs; those in C by these flags too."""
     to.mkdir(parents=True, exist_ok=True)
     for source in sorted(TESTS.glob("*.c")):
         subprocess.run([os.environ.get("CC", "cc"), "-std=gnu11", "-O1", "-Wall", "-Wextra", "-Werror", "-o",
-                        str(to / source.stem), str(source), "-lpthread"], check=True)
+                        str(to / source.stem), str(source), "-lpthread", *more_flags], check=True)
     for name, more in ("streams", "-lpthread"), ("blocks", "-ltbb"):
         if shutil.which("c++"):
             subprocess.run(["c++", "-O1", "-o", str(to / name), str(TESTS / f"{name}.cc"), "-lpthread", more],

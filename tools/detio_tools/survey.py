@@ -372,7 +372,7 @@ def reason(ran: list[programs.Ran]) -> str:
     for it in ran:
         if it.ours():
             return it.ours().split("; ")[-1].removeprefix("detio: ")[:150].replace("|", "/")
-    return f"status {ran[-1].status}"
+    return "no end in time" if ran[0].status == NO_END else f"status {ran[0].status}"
 
 
 @dataclass(frozen=True)

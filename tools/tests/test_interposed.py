@@ -98,7 +98,7 @@ class Interposed(unittest.TestCase):
         tables = interposed.read_tables(pathlib.Path(repository.TOP) / "bindings/preload")
         self.assertEqual(tables.faults, [])
         self.assertGreater(len(tables.hows), 600)
-        self.assertGreater(len(tables.whys), 300)
+        self.assertGreater(len(tables.whys), 290)
 
 
 if __name__ == "__main__":

@@ -70,6 +70,7 @@ class Survey(unittest.TestCase):
         said = [programs.Ran(1, b"", b"x\n"), programs.Ran(2, b"", b"detio: a | line\ndetio: last | line\n")]
         self.assertEqual(survey.reason(said), "last / line")
         self.assertEqual(survey.reason(said[:1]), "status 1")
+        self.assertEqual(survey.reason([programs.Ran(survey.NO_END, b"", b"no end"), said[0]]), "no end in time")
 
     def test_rounds_of_reruns(self) -> None:
         class Reruns(programs.Trial):
