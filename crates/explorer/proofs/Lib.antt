@@ -4,4 +4,5 @@ pub mod VariedTexts
 pub mod MovedLines
 pub mod VariedScripts
 pub mod VariedCalls
+pub mod ReadOnce
 pub mod Listing

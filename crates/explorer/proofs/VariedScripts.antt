@@ -230,9 +230,14 @@ moves_from_start : (works : List (Option ℕ)) → MovesFrom (moved works) 0 0 w
 moves_from_start works k =
     ap (moved works) (zero-add k) ∙ sym (zero-add (moved works k))
 
-pub varied_script : VariedIsScript
+-- a varied text is too long, or the script with its works
+pub script_of_varied : (delay : ℕ → Option ℕ) (text : List ℕ) (lines : List Line)
+    → AreWorks delay → script_of text ≡ Ok lines
+    → script_of (varied_text delay text)
+    ≡ (if nat_lt SCRIPT_LINES (length (varied_list delay 0 (lines_of text))) then Err too_long
+    else Ok (delayed (works_of delay text) lines))
 unfolding script_of
-varied_script delay text lines works is =
+script_of_varied delay text lines works is =
     let texts = lines_of text in
     let varied = varied_list delay 0 texts in
     let to = moved (works_from delay 0 texts) in
@@ -245,13 +250,18 @@ varied_script delay text lines works is =
     let good =
     readings_move to delay (labels_from 0 texts) 0 0 0 1 1 texts lines works start
     (read (nat_lt SCRIPT_LINES (length texts)) (gathered 1 (readings_of texts)) is) in
-    rw (back, labels, good) (long (nat_lt SCRIPT_LINES (length varied)))
+    rw (back, labels, good) refl
   where
     read : (long : Bool) (found : Result (List Line) Fault)
         → (if long then Err too_long else found) ≡ Ok lines → found ≡ Ok lines
     read true found is = cc
     read false found is = is
 
+pub varied_script : VariedIsScript
+varied_script delay text lines works is =
+    rw (script_of_varied delay text lines works is)
+    (long (nat_lt SCRIPT_LINES (length (varied_list delay 0 (lines_of text)))))
+  where
     long : (b : Bool)
         → ((if b then Err too_long else Ok (delayed (works_of delay text) lines)) ≡ Err too_long)
         ⊎ ((if b then Err too_long else Ok (delayed (works_of delay text) lines))

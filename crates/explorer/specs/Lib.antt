@@ -4,6 +4,7 @@ pub mod Lists
 pub mod ListCounts
 pub mod Varied
 pub mod Delayed
+pub mod ReadScripts
 pub mod Observations
 pub mod Numbers
 pub mod Groups

@@ -1,6 +1,6 @@
 -- Internal: no contract of the headline or of a command stands on it.
 -- A number for what threads saw, so that most of what differs is told apart without a look at it.
-use Rattle.std.specs.Prelude.{ℕ, ℤ, List, length, unsigned_abs}
+use Rattle.std.specs.Prelude.{ℕ, List, length, unsigned_abs}
 use Rattle.std.specs.List.{fold}
 use Rattle.posix_terms.specs.Errors.{code_of}
 use Rattle.posix_terms.specs.Replies.{kind_code}

@@ -15,7 +15,8 @@
 //! without the clocks of the turns, which of them had [`EndedThreads`], and why the run stopped. By
 //! the contract there is one plain run for each case, in order, and each is counted in one group. A
 //! [`RunFault`] says why there was none. Each run takes outcomes of its own, which
-//! [`outcomes_copied`] gives.
+//! [`outcomes_copied`] gives. A [`ReadTrial`] has read the texts once, for runs with other delays or
+//! other outcomes.
 //!
 //! ```rust
 //! use explorer::{Chance, NoProgress, Trial, Workers, varied};
@@ -66,6 +67,8 @@ mod observation;
 mod observing;
 mod places;
 mod progress;
+mod read_script;
+mod read_trial;
 mod runs;
 mod trial;
 mod vary;
@@ -84,6 +87,7 @@ pub use numbers::number_of;
 pub use observation::Observation;
 pub use places::CallPlace;
 pub use progress::{NoProgress, ReportsProgress};
+pub use read_trial::ReadTrial;
 pub use runs::run_texts;
 pub use trial::Trial;
 pub use vary::{varied, varied_texts};

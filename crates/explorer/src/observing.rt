@@ -3,17 +3,16 @@ ghost use Rattle.std.specs.Prelude.{slice_index_or};
 ghost use Rattle.explorer.specs.Groups.{runs_of};
 ghost use Rattle.explorer.specs.Joining.{AllJoin, CaseGives, HasFault};
 ghost use Rattle.explorer.specs.declared.fault.RunFault.TheVariants as fault;
-ghost use Rattle.explorer.specs.Subject.{subject};
 
 use crate::delays::Delays;
 use crate::fault::RunFault;
 use crate::groups::Groups;
 use crate::observation::Observation;
-use crate::trial::Trial;
+use crate::read_trial::ReadTrial;
 use crate::workers::Workers;
 use call_machine::SpareStore;
 use std::alloc::{AllocError, Global};
-use std::thread::{Threads, for_each_mut};
+use std::thread::{Threads, for_each_chunk_mut};
 
 // Has what the runs of cases gave join the groups, one after the other; the first case has this
 // number. A run that was not made is the fault.
@@ -36,12 +35,12 @@ pub(crate) fn join_all(
 }
 
 // What so many cases give, from this one on, in at most so many threads. One thread alone runs them over the spare
-// store; several make one for each run.
+// store; of several each makes a store for its part of them.
 pub(crate) fn observe_cases<T: Threads + Sync, D: Delays + Sync>(
     workers: &Workers<'_, T>,
     alloc: Global,
     spare: &mut SpareStore,
-    trial: Trial<'_>,
+    trial: &ReadTrial<'_>,
     delays: &D,
     first: u64,
     count: usize,
@@ -49,7 +48,7 @@ pub(crate) fn observe_cases<T: Threads + Sync, D: Delays + Sync>(
     requires { first + count < 2 ^ 64 }
     ensures len { IfOk result (λ seen. length seen.items ≡ count) }
     ensures each { IfOk result (λ seen. (i : ℕ) (d : _) → i < count
-        → CaseGives (subject trial.entry) (D.delays_of delays.now) (first + i)
+        → CaseGives trial.now (D.delays_of delays.now) (first + i)
         (slice_index_or seen.items i d)) }
 {
     let mut seen = places(alloc, count)?;
@@ -57,32 +56,27 @@ pub(crate) fn observe_cases<T: Threads + Sync, D: Delays + Sync>(
         observe_in_turn(alloc, spare, trial, delays, first, seen.as_mut_slice());
         return Ok(seen);
     }
-    for_each_mut(
+    let size = count.div_ceil(workers.jobs).max(1);
+    for_each_chunk_mut(
         workers.threads,
         seen.as_mut_slice(),
-        workers.jobs,
-        &|i, one| *one = observe_alone(alloc, trial, delays, first + i as u64),
+        size,
+        &|start: usize, part: &mut [Result<Observation, RunFault>]|
+            requires { first + start + length part.old < 2 ^ 64 }
+            ensures { (k : ℕ) (d : _) → k < length part.old
+                → CaseGives trial.entry.now (D.delays_of delays.entry.now) (first + start + k)
+                (slice_index_or part.new k d) }
+        {
+            observe_apart(alloc, trial, delays, first + start as u64, part);
+        },
     );
     Ok(seen)
 }
 
-// What this case gives, over a store of its own.
-fn observe_alone<D: Delays>(
+// What the cases from this one on give, as many as there are places for it, over a store of their own.
+fn observe_apart<D: Delays>(
     alloc: Global,
-    trial: Trial<'_>,
-    delays: &D,
-    case: u64,
-) -> Result<Observation, RunFault>
-    ensures { CaseGives (subject trial.entry) (D.delays_of delays.now) case result }
-{
-    trial.observe_case(alloc, &mut SpareStore::new(), delays, case)
-}
-
-// What the cases from this one on give, as many as there are places for it, one after the other over the spare store.
-fn observe_in_turn<D: Delays>(
-    alloc: Global,
-    spare: &mut SpareStore,
-    trial: Trial<'_>,
+    trial: &ReadTrial<'_>,
     delays: &D,
     first: u64,
     seen: &mut [Result<Observation, RunFault>],
@@ -90,7 +84,25 @@ fn observe_in_turn<D: Delays>(
     requires { first + length seen.old < 2 ^ 64 }
     ensures len { length seen.new ≡ length seen.old }
     ensures each { (i : ℕ) (d : _) → i < length seen.old
-        → CaseGives (subject trial.entry) (D.delays_of delays.now) (first + i)
+        → CaseGives trial.now (D.delays_of delays.now) (first + i)
+        (slice_index_or seen.new i d) }
+{
+    observe_in_turn(alloc, &mut SpareStore::new(), trial, delays, first, seen);
+}
+
+// What the cases from this one on give, as many as there are places for it, one after the other over the spare store.
+fn observe_in_turn<D: Delays>(
+    alloc: Global,
+    spare: &mut SpareStore,
+    trial: &ReadTrial<'_>,
+    delays: &D,
+    first: u64,
+    seen: &mut [Result<Observation, RunFault>],
+)
+    requires { first + length seen.old < 2 ^ 64 }
+    ensures len { length seen.new ≡ length seen.old }
+    ensures each { (i : ℕ) (d : _) → i < length seen.old
+        → CaseGives trial.now (D.delays_of delays.now) (first + i)
         (slice_index_or seen.new i d) }
 {
     for i in 0..seen.len() {

@@ -1,6 +1,6 @@
 ghost use Rattle.std.specs.Prelude.{◌≡◌, ◌-◌, [], IfErr, IfOk};
 ghost use Rattle.std.specs.List.{range_with_len};
-ghost use Rattle.explorer.specs.Cases.{CasesJoin, IsFaultOf, with_delays};
+ghost use Rattle.explorer.specs.Cases.{CasesJoin, IsFaultOf};
 ghost use Rattle.explorer.specs.Groups.{runs_of};
 ghost use Rattle.explorer.specs.Runs.{IsFault, IsRun, Sees};
 ghost use Rattle.explorer.specs.Subject.{subject};
@@ -11,8 +11,8 @@ use crate::groups::Groups;
 use crate::observation::Observation;
 use crate::observing::{join_all, observe_cases};
 use crate::progress::ReportsProgress;
+use crate::read_trial::ReadTrial;
 use crate::runs::run_copied;
-use crate::vary::varied_texts;
 use crate::workers::Workers;
 use call_machine::{Plain, SpareStore};
 use posix_terms::{Bytes, Outcomes, Settings};
@@ -49,6 +49,7 @@ impl Trial<'_> {
         ensures err { IfErr result (
             IsFaultOf (subject self.entry) (D.delays_of delays.now) cases.start cases.end) }
     {
+        let read = ReadTrial::new(alloc, self);
         let mut groups = Groups::new(alloc);
         let mut spare = SpareStore::new();
         let mut case = cases.start;
@@ -58,7 +59,7 @@ impl Trial<'_> {
                 workers,
                 alloc,
                 &mut spare,
-                self,
+                &read,
                 delays,
                 case,
                 count as usize,
@@ -71,33 +72,26 @@ impl Trial<'_> {
         Ok(groups)
     }
 
-    /// What is seen in the plain run of the scripts with the delays of this case, over the store that
-    /// an earlier run left in `spare`, where there is one; it leaves it there for the next. The errors
-    /// are those of [`run_texts`](crate::run_texts) for the texts with their delays.
-    pub fn observe_case<D: Delays>(
-        self,
-        alloc: Global,
-        spare: &mut SpareStore,
-        delays: &D,
-        case: u64,
-    ) -> Result<Observation, RunFault>
-        ensures ok { IfOk result (
-            Sees (with_delays (D.delays_of delays.now case) (subject self.entry))) }
-        ensures err { IfErr result (
-            IsFault (with_delays (D.delays_of delays.now case) (subject self.entry))) }
-    {
-        let texts = varied_texts(alloc, delays, case, self.texts)?;
-        let plain = run_copied(alloc, spare, &texts, self.outcomes, self.settings)?;
-        Ok(Observation::new(alloc, &plain)?)
-    }
-
     /// What is seen in the plain run of the scripts, as they are. The errors are those of
     /// [`run_texts`](crate::run_texts).
     pub fn observe(self, alloc: Global) -> Result<Observation, RunFault>
         ensures ok { IfOk result (Sees (subject self.entry)) }
         ensures err { IfErr result (IsFault (subject self.entry)) }
     {
-        let plain = self.run(alloc)?;
+        self.observe_kept(alloc, &mut SpareStore::new())
+    }
+
+    /// The same, over the store that an earlier run left in `spare`, where there is one; it leaves it
+    /// there for the next.
+    pub fn observe_kept(
+        self,
+        alloc: Global,
+        spare: &mut SpareStore,
+    ) -> Result<Observation, RunFault>
+        ensures ok { IfOk result (Sees (subject self.entry)) }
+        ensures err { IfErr result (IsFault (subject self.entry)) }
+    {
+        let plain = self.run_kept(alloc, spare)?;
         Ok(Observation::new(alloc, &plain)?)
     }
 
@@ -107,7 +101,15 @@ impl Trial<'_> {
         ensures ok { IfOk result (IsRun (subject self.entry)) }
         ensures err { IfErr result (IsFault (subject self.entry)) }
     {
-        let spare = &mut SpareStore::new();
+        self.run_kept(alloc, &mut SpareStore::new())
+    }
+
+    /// The same, over the store that an earlier run left in `spare`, where there is one; it leaves it
+    /// there for the next.
+    pub fn run_kept(self, alloc: Global, spare: &mut SpareStore) -> Result<Plain, RunFault>
+        ensures ok { IfOk result (IsRun (subject self.entry)) }
+        ensures err { IfErr result (IsFault (subject self.entry)) }
+    {
         run_copied(alloc, spare, self.texts, self.outcomes, self.settings)
     }
 }

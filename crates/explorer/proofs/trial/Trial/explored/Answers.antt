@@ -1,8 +1,8 @@
 use Rattle.std.proofs.Common.{rules, ◌≡◌, ◌⊎◌, ◌+◌, ◌-◌, ◌<◌, ◌≤◌, [], ℕ, Err, IfErr, List, Result, arith}
-use Rattle.std.proofs.Common.{Option, inl, inr, length, subst, sym}
+use Rattle.std.proofs.Common.{Option, inl, inr, length, slice_index_or, subst, sym}
 use Rattle.std.specs.List.{range_with_len}
 use Rattle.explorer.specs.Cases.{CasesJoin, IsFaultOf}
-use Rattle.explorer.specs.Joining.{HasFault}
+use Rattle.explorer.specs.Joining.{CaseGives, HasFault}
 use Rattle.explorer.specs.Subject.{Subject, subject}
 use Rattle.explorer.specs.declared.fault.RunFault.{RunFault}
 use Rattle.explorer.specs.declared.fault.RunFault.TheVariants as fault
@@ -35,7 +35,11 @@ returns-in_err-join_all-clause-err g c =
     let less : c.min-count.result ≤ end - case = search rules in
     let before : case < end = c.loop-case-test.true in
     let each : EachGives tried delays case seen =
-    λ i d inside. c.in_ok-seen.ensures.each i d (omega (arith, inside, count)) in
+    λ i d inside.
+    subst
+    (λ (read : Subject). CaseGives read delays (case + i) (slice_index_or seen i d))
+    c.new-read.ensures
+    (c.in_ok-seen.ensures.each i d (omega (arith, inside, count))) in
     let is : c.from_residual-in_err-join_all.result ≡ Err why = search rules in
     subst
     (λ (r : Result (List Group) RunFault).
@@ -58,7 +62,11 @@ loop-case-preserved g c =
     let less : c.min-count.result ≤ end - case = search rules in
     let before : case < end = c.loop-case-test.true in
     let each : EachGives tried delays case seen =
-    λ i d inside. c.in_ok-seen.ensures.each i d (omega (arith, inside, count)) in
+    λ i d inside.
+    subst
+    (λ (read : Subject). CaseGives read delays (case + i) (slice_index_or seen i d))
+    c.new-read.ensures
+    (c.in_ok-seen.ensures.each i d (omega (arith, inside, count))) in
     let joins = c.in_ok-join_all.ensures.ok in
     let more = all_runs_more case seen c.loop-case.groups now joins in
     record {
