@@ -7,7 +7,7 @@ ghost use Rattle.minimiser.specs.Targets.{IsAsExpected, IsFirstTarget, IsUnmetIn
 ghost use Rattle.minimiser.specs.declared.target.Target.{Target};
 
 use crate::target::{Came, Place, Sameness, Target};
-use call_machine::plain_runs_agree;
+use call_machine::{SpareStore, plain_runs_agree};
 use command_texts::first_bad_expectation;
 use expectations::{Unmet, expectations_of, first_unmet, one_first_unmet, one_reading};
 use explorer::{Observation, RunFault, Trial};
@@ -27,10 +27,23 @@ pub fn find_target(
     ensures { IfOk result (λ found. (target : Target)
         → (found ≡ Some target) ↔ Fails sameness (subject trial.entry) target) }
 {
+    find_target_kept(alloc, &mut SpareStore::new(), trial, sameness)
+}
+
+// The same, over the store that an earlier run left in `spare`, where there is one; it leaves it there for the next.
+pub(crate) fn find_target_kept(
+    alloc: Global,
+    spare: &mut SpareStore,
+    trial: Trial<'_>,
+    sameness: Sameness,
+) -> Result<Option<Target>, AllocError>
+    ensures { IfOk result (λ found. (target : Target)
+        → (found ≡ Some target) ↔ Fails sameness (subject trial.entry) target) }
+{
     plain_runs_agree();
     one_reading();
     one_first_unmet();
-    match seen_in(alloc, trial)? {
+    match seen_in(alloc, spare, trial)? {
         Some(observation) => {
             let transcripts = observation.seen.threads();
             first_target(alloc, trial.texts, transcripts, sameness)
@@ -41,7 +54,11 @@ pub fn find_target(
 
 // What is seen in the plain run, if the texts are scripts, all that they expect is good, and the
 // scripts are run.
-fn seen_in(alloc: Global, trial: Trial<'_>) -> Result<Option<Observation>, AllocError>
+fn seen_in(
+    alloc: Global,
+    spare: &mut SpareStore,
+    trial: Trial<'_>,
+) -> Result<Option<Observation>, AllocError>
     ensures { IfOk result (λ seen.
         MatchOption seen
         ((observation : Observation) → ¬ (IsRunOf (subject trial.entry) observation))
@@ -51,7 +68,7 @@ fn seen_in(alloc: Global, trial: Trial<'_>) -> Result<Option<Observation>, Alloc
     if first_bad_expectation(alloc, trial.texts)?.is_some() {
         return Ok(None);
     }
-    match trial.observe(alloc) {
+    match trial.observe_kept(alloc, spare) {
         Ok(observation) => Ok(Some(observation)),
         Err(RunFault::Memory) => Err(AllocError),
         Err(_) => Ok(None),

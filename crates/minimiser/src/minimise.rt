@@ -9,14 +9,22 @@ ghost use Rattle.minimiser.specs.Rounds.{delays_of, size_of};
 
 use crate::delays::delays;
 use crate::fault::MinimiseFault;
-use crate::finding::find_target;
+use crate::finding::find_target_kept;
 use crate::reduction::Reduction;
 use crate::scope::Scope;
 use crate::step::Removal;
 use crate::target::Target;
 use crate::watching::WatchesMinimising;
+use call_machine::SpareStore;
 use explorer::Trial;
 use std::alloc::{AllocError, Global};
+
+// What runs have in common: the store that each leaves to the next, and who hears of them.
+#[derive(Drop)]
+struct Runs<'a, P: WatchesMinimising> {
+    spare: SpareStore,
+    watch: &'a mut P,
+}
 
 /// Takes lines and threads away from scripts, or delays alone, as long as they fail the same in
 /// their plain run. Threads, delays and lines go first in blocks, each of half of them, then of a
@@ -36,16 +44,20 @@ pub fn minimised<P: WatchesMinimising>(
     ensures err { IfErr result (IsFault (subject trial.entry) target.now) }
 {
     let mut kept = Reduction::all(alloc, trial.texts)?;
-    let failing = fails(alloc, trial, target, &kept, watch)?;
+    let mut runs = Runs {
+        spare: SpareStore::new(),
+        watch,
+    };
+    let failing = fails(alloc, trial, target, &kept, &mut runs)?;
     if !failing {
         return Err(MinimiseFault::NotFailing);
     }
-    watch.kept(kept.line_count());
+    runs.watch.kept(kept.line_count());
     let delays = delays(alloc, trial.texts)?;
-    take_first(alloc, trial, target, scope, &mut kept, &delays, watch)?;
+    take_first(alloc, trial, target, scope, &mut kept, &delays, &mut runs)?;
     loop {
         let steps = steps_of(alloc, trial, scope, &kept, &delays)?;
-        let taken = take(alloc, trial, target, scope, &mut kept, &steps, watch)?;
+        let taken = take(alloc, trial, target, scope, &mut kept, &steps, &mut runs)?;
         if !taken {
             return Ok(kept);
         }
@@ -60,7 +72,7 @@ fn take_first<P: WatchesMinimising>(
     scope: Scope,
     kept: &mut Reduction,
     delays: &[Removal],
-    watch: &mut P,
+    runs: &mut Runs<'_, P>,
 ) -> Result<(), AllocError>
     requires fails { FailsIn (subject trial) target.now kept.old }
     requires stands { Stands scope (subject trial).texts kept.old }
@@ -68,8 +80,8 @@ fn take_first<P: WatchesMinimising>(
     ensures fails { OnOk result (FailsIn (subject trial.entry) target.now kept.new) }
     ensures stands { OnOk result (Stands scope (subject trial.entry).texts kept.new) }
 {
-    take_in_blocks(alloc, trial, target, scope, kept, delays, watch)?;
-    shorten_all(alloc, trial, target, scope, kept, delays, watch)
+    take_in_blocks(alloc, trial, target, scope, kept, delays, runs)?;
+    shorten_all(alloc, trial, target, scope, kept, delays, runs)
 }
 
 // Takes what goes in blocks: threads, delays, then lines.
@@ -80,7 +92,7 @@ fn take_in_blocks<P: WatchesMinimising>(
     scope: Scope,
     kept: &mut Reduction,
     delays: &[Removal],
-    watch: &mut P,
+    runs: &mut Runs<'_, P>,
 ) -> Result<(), AllocError>
     requires fails { FailsIn (subject trial) target.now kept.old }
     requires stands { Stands scope (subject trial).texts kept.old }
@@ -91,12 +103,12 @@ fn take_in_blocks<P: WatchesMinimising>(
     match scope {
         Scope::Everything => {
             let threads = kept.thread_steps(alloc)?;
-            take_blocks(alloc, trial, target, scope, kept, &threads, watch)?;
-            take_blocks(alloc, trial, target, scope, kept, delays, watch)?;
+            take_blocks(alloc, trial, target, scope, kept, &threads, runs)?;
+            take_blocks(alloc, trial, target, scope, kept, delays, runs)?;
             let lines = kept.line_steps(alloc)?;
-            take_blocks(alloc, trial, target, scope, kept, &lines, watch)
+            take_blocks(alloc, trial, target, scope, kept, &lines, runs)
         }
-        Scope::Schedule => take_blocks(alloc, trial, target, scope, kept, delays, watch),
+        Scope::Schedule => take_blocks(alloc, trial, target, scope, kept, delays, runs),
     }
 }
 
@@ -108,7 +120,7 @@ fn shorten_all<P: WatchesMinimising>(
     scope: Scope,
     kept: &mut Reduction,
     delays: &[Removal],
-    watch: &mut P,
+    runs: &mut Runs<'_, P>,
 ) -> Result<(), AllocError>
     requires fails { FailsIn (subject trial) target.now kept.old }
     requires stands { Stands scope (subject trial).texts kept.old }
@@ -117,7 +129,7 @@ fn shorten_all<P: WatchesMinimising>(
     ensures stands { OnOk result (Stands scope (subject trial.entry).texts kept.new) }
 {
     for delay in delays {
-        shorten(alloc, trial, target, scope, kept, *delay, watch)?;
+        shorten(alloc, trial, target, scope, kept, *delay, runs)?;
     }
     Ok(())
 }
@@ -130,7 +142,7 @@ fn shorten<P: WatchesMinimising>(
     scope: Scope,
     kept: &mut Reduction,
     delay: Removal,
-    watch: &mut P,
+    runs: &mut Runs<'_, P>,
 ) -> Result<(), AllocError>
     requires fails { FailsIn (subject trial) target.now kept.old }
     requires stands { Stands scope (subject trial).texts kept.old }
@@ -150,7 +162,7 @@ fn shorten<P: WatchesMinimising>(
             line,
             units,
         };
-        if is_taken(alloc, trial, target, scope, kept, step, watch)? {
+        if is_taken(alloc, trial, target, scope, kept, step, runs)? {
             high = units;
         } else {
             low = units + 1;
@@ -167,7 +179,7 @@ fn is_taken<P: WatchesMinimising>(
     scope: Scope,
     kept: &mut Reduction,
     step: Removal,
-    watch: &mut P,
+    runs: &mut Runs<'_, P>,
 ) -> Result<bool, AllocError>
     requires fails { FailsIn (subject trial) target.now kept.old }
     requires stands { Stands scope (subject trial).texts kept.old }
@@ -175,7 +187,7 @@ fn is_taken<P: WatchesMinimising>(
     ensures fails { OnOk result (FailsIn (subject trial.entry) target.now kept.new) }
     ensures stands { OnOk result (Stands scope (subject trial.entry).texts kept.new) }
 {
-    match after(alloc, trial, target, kept, step, watch)? {
+    match after(alloc, trial, target, kept, step, runs)? {
         Some(rest) => {
             *kept = rest;
             Ok(true)
@@ -237,7 +249,7 @@ fn take_blocks<P: WatchesMinimising>(
     scope: Scope,
     kept: &mut Reduction,
     steps: &[Removal],
-    watch: &mut P,
+    runs: &mut Runs<'_, P>,
 ) -> Result<(), AllocError>
     requires fails { FailsIn (subject trial) target.now kept.old }
     requires stands { Stands scope (subject trial).texts kept.old }
@@ -248,7 +260,7 @@ fn take_blocks<P: WatchesMinimising>(
     let mut size = steps.len();
     while size > 1 {
         size -= size / 2;
-        take_blocks_of(alloc, trial, target, scope, kept, steps, size, watch)?;
+        take_blocks_of(alloc, trial, target, scope, kept, steps, size, runs)?;
     }
     Ok(())
 }
@@ -262,7 +274,7 @@ fn take_blocks_of<P: WatchesMinimising>(
     kept: &mut Reduction,
     steps: &[Removal],
     size: usize,
-    watch: &mut P,
+    runs: &mut Runs<'_, P>,
 ) -> Result<(), AllocError>
     requires some { 0 < size }
     requires fails { FailsIn (subject trial) target.now kept.old }
@@ -274,7 +286,7 @@ fn take_blocks_of<P: WatchesMinimising>(
     let mut from = 0;
     while from < steps.len() {
         let end = from + size.min(steps.len() - from);
-        let rest = after_block(alloc, trial, target, kept, &steps[from..end], watch)?;
+        let rest = after_block(alloc, trial, target, kept, &steps[from..end], runs)?;
         if let Some(rest) = rest {
             *kept = rest;
         }
@@ -291,7 +303,7 @@ fn after_block<P: WatchesMinimising>(
     target: &Target,
     kept: &Reduction,
     block: &[Removal],
-    watch: &mut P,
+    runs: &mut Runs<'_, P>,
 ) -> Result<Option<Reduction>, AllocError>
     ensures { IfOk result (λ rest. IfSome rest (λ rest.
         (rest ≡ after_all kept.now block.now)
@@ -301,10 +313,10 @@ fn after_block<P: WatchesMinimising>(
         return Ok(None);
     }
     let less = kept.after_all(alloc, block)?;
-    if !fails(alloc, trial, target, &less, watch)? {
+    if !fails(alloc, trial, target, &less, runs)? {
         return Ok(None);
     }
-    watch.kept(less.line_count());
+    runs.watch.kept(less.line_count());
     Ok(Some(less))
 }
 
@@ -316,7 +328,7 @@ fn take<P: WatchesMinimising>(
     scope: Scope,
     kept: &mut Reduction,
     steps: &[Removal],
-    watch: &mut P,
+    runs: &mut Runs<'_, P>,
 ) -> Result<bool, AllocError>
     requires fails { FailsIn (subject trial) target.now kept.old }
     requires stands { Stands scope (subject trial).texts kept.old }
@@ -330,7 +342,7 @@ fn take<P: WatchesMinimising>(
 {
     let mut taken = false;
     for step in steps {
-        let rest = after(alloc, trial, target, kept, *step, watch)?;
+        let rest = after(alloc, trial, target, kept, *step, runs)?;
         if let Some(rest) = rest {
             *kept = rest;
             taken = true;
@@ -346,7 +358,7 @@ fn after<P: WatchesMinimising>(
     target: &Target,
     kept: &Reduction,
     step: Removal,
-    watch: &mut P,
+    runs: &mut Runs<'_, P>,
 ) -> Result<Option<Reduction>, AllocError>
     ensures { IfOk result (λ rest.
         MatchOption rest
@@ -358,10 +370,10 @@ fn after<P: WatchesMinimising>(
         return Ok(None);
     }
     let rest = kept.without(alloc, step)?;
-    if !fails(alloc, trial, target, &rest, watch)? {
+    if !fails(alloc, trial, target, &rest, runs)? {
         return Ok(None);
     }
-    watch.kept(rest.line_count());
+    runs.watch.kept(rest.line_count());
     Ok(Some(rest))
 }
 
@@ -371,7 +383,7 @@ fn fails<P: WatchesMinimising>(
     trial: Trial<'_>,
     target: &Target,
     kept: &Reduction,
-    watch: &mut P,
+    runs: &mut Runs<'_, P>,
 ) -> Result<bool, AllocError>
     ensures { IfOk result (λ fails.
         IsTrue fails ↔ FailsIn (subject trial.entry) target.now kept.now) }
@@ -386,8 +398,8 @@ fn fails<P: WatchesMinimising>(
         outcomes: &outcomes,
         settings: trial.settings,
     };
-    watch.ran();
-    match find_target(alloc, rest, target.came.sameness())? {
+    runs.watch.ran();
+    match find_target_kept(alloc, &mut runs.spare, rest, target.came.sameness())? {
         Some(found) => Ok(found.is(place, &target.came)),
         None => Ok(false),
     }

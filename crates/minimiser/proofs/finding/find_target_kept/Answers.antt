@@ -7,7 +7,7 @@ use Rattle.minimiser.specs.Failing.{Fails, IsRunOf}
 use Rattle.minimiser.specs.Targets.{IsAsExpected, IsFirstTarget}
 use Rattle.minimiser.specs.declared.target.Target.{Target}
 use Rattle.minimiser.proofs.OneTarget.{Laws, found_in, none_run}
-use Rattle.minimiser.proofs.finding.find_target.Goals as goal
+use Rattle.minimiser.proofs.finding.find_target_kept.Goals as goal
 
 pub returns-in-Some : goal.returns-in-Some
 returns-in-Some c =
