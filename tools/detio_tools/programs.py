@@ -88,6 +88,7 @@ CASES = (
     Case("handlers", ("@handlers",), reruns=10),
     Case("handlers in parallel", ("@handlers",), ("--parallel",)),
     Case("ended by a signal", ("@moments", "default"), status=128 + signal.SIGTERM),
+    Case("ended by a late signal", ("@moments", "late"), status=128 + signal.SIGTERM),
     Case("moments", ("@moments",), native=False),
     Case("moments that are sent", ("@moments", "send"), native=False),
     Case("moments in parallel", ("@moments", "send"), ("--parallel", "--overlap"), native=False, reruns=20),

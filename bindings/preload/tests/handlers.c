@@ -251,6 +251,13 @@ static void awaited(void) {
   SAY(taken == SIGUSR2);
   SAY(value);
   pthread_sigmask(SIG_UNBLOCK, &set, NULL);
+  set = set_of(SIGALRM); /* .. and one from outside */
+  siginfo_t about;
+  pthread_sigmask(SIG_BLOCK, &set, NULL);
+  SAY(setitimer(ITIMER_REAL, &(struct itimerval){{0, 0}, {0, 20000}}, NULL));
+  SAY(sigwaitinfo(&set, &about) == SIGALRM);
+  SAY(about.si_signo == SIGALRM && about.si_code == SI_KERNEL);
+  pthread_sigmask(SIG_UNBLOCK, &set, NULL);
 }
 
 /* From outside: timers, whose handler interrupts a sleep, a read and a loop of calls. */

@@ -48,6 +48,8 @@ static void names(void) {
   FAILS(truncate("/run/room/moved", 1), EPERM);
   FAILS((int)readlink("/run/room/moved", path, sizeof path), EINVAL);
   MUST(!opendir("/run/room") && errno == ENOSYS);
+  MUST(pathconf("/run/room", _PC_NAME_MAX) == 14);
+  FAILS(pathconf("/run/room/moved", _PC_LINK_MAX), EINVAL);
   MUST(!unlink("/run/room/moved") && !remove("/run/room/other") && !remove("/run/room"));
 }
 

@@ -35,6 +35,25 @@ static struct timespec in(clockid_t clock, long millis) {
   return t;
 }
 static void initialises(void) { rounds += 100; }
+/* Who ends in the midst of it leaves it to the next. */
+static pthread_once_t given_up = PTHREAD_ONCE_INIT;
+static int begun;
+static void gives_up(void) {
+  if (++begun == 1) pthread_exit(NULL);
+}
+static void *begins_once(void *given) {
+  pthread_once(&given_up, gives_up);
+  return given;
+}
+static void once_again(void) {
+  pthread_t t;
+  void *result = &t;
+  pthread_create(&t, NULL, begins_once, &begun);
+  pthread_join(t, &result);
+  TELL(pthread_once(&given_up, gives_up));
+  TELL(pthread_once(&given_up, gives_up));
+  SAY(begun + (result == NULL));
+}
 
 static void *worker(void *given) {
   pthread_once(&once, initialises);
@@ -165,6 +184,7 @@ int main(void) {
   sem_init(&sem, 0, 0);
   sem_init(&goes, 0, 0);
   alone();
+  once_again();
   pthread_barrier_init(&barrier, NULL, 4);
   for (long i = 0; i < 4; i++) pthread_create(&t[i], NULL, worker, (void *)i);
   pthread_mutex_lock(&m);

@@ -39,6 +39,17 @@ int main(int count, char **words) {
   bool is_sent = count > 1 && !strcmp(words[1], "send"), is_over = false;
   struct itimerval it = {{0, 3000}, {0, 3000}};
   if (count > 1 && !strcmp(words[1], "default")) return raise(SIGTERM);
+  if (count > 1 && !strcmp(words[1], "late")) { /* it had a handler when it was sent, and has none when it is let in */
+    sigset_t set;
+    sigemptyset(&set);
+    sigaddset(&set, SIGTERM);
+    signal(SIGTERM, notes);
+    pthread_sigmask(SIG_BLOCK, &set, NULL);
+    raise(SIGTERM);
+    signal(SIGTERM, SIG_DFL);
+    pthread_sigmask(SIG_UNBLOCK, &set, NULL);
+    return 3;
+  }
   first = pthread_self();
   signal(SIGALRM, notes);
   if (is_sent) pthread_create(&t, NULL, sends, NULL);
