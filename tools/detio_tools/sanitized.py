@@ -1,4 +1,4 @@
-"""The preload library under AddressSanitizer and Valgrind: what tools/sanitized does."""
+"""The preload library under AddressSanitizer: what tools/sanitized does."""
 import os
 import pathlib
 import shutil
@@ -15,8 +15,6 @@ REPORT = "AddressSanitizer"
 LEFT_OUT = {"lookups": "the sanitizer looks its functions up too"}
 # A program calls what the sanitizer has no function behind, and fails with it alone; or goes on without its options.
 NOT_ALONE = ("aliases", "execs", "execs with a seed")
-# Valgrind runs this program, whose one thread makes most calls on descriptors.
-UNDER_VALGRIND = "descriptors"
 
 # Faults that are planted, each with the case that must find it: a sanitizer that does not find it does not look.
 PLANTED = {
@@ -113,18 +111,6 @@ class Seen(Quiet):
         return programs.Trial.check(self, holds, fault)
 
 
-def under_valgrind(trial: programs.Trial) -> str | None:
-    """What Valgrind says of a recording: a fault, or None. The library is as it is."""
-    folder = trial.room / "valgrind"
-    programs.make_inputs(folder)
-    program = trial.room / "programs" / UNDER_VALGRIND
-    words = ["valgrind", "-q", "--error-exitcode=99", "--trace-children=yes", str(trial.library / "detio-launch"),
-             "run", "--log", "valgrind.log", "--force", "--", str(program)]
-    ran = trial.launch(*words, folder=folder)
-    said = f"{ran.status} {ran.err.decode(errors='replace')[-2000:]}"
-    return None if ran.status == 0 and b"==" not in ran.err else said
-
-
 def all_of(names: list[str], library: pathlib.Path, room: pathlib.Path, show: Callable[[str], None]) -> int:
     """How many faults there are."""
     objects = (library / "objects").resolve()
@@ -146,19 +132,5 @@ def all_of(names: list[str], library: pathlib.Path, room: pathlib.Path, show: Ca
         wrong = plant(what, room, objects)
         faults += wrong is not None
         show(f"planted: {what}: {wrong or 'found'}")
-    if not names:
-        faults += valgrind(library, room, show)
     show(f"left out: {', '.join(f'{it} ({why})' for it, why in LEFT_OUT.items())}")
     return faults
-
-
-def valgrind(library: pathlib.Path, room: pathlib.Path, show: Callable[[str], None]) -> int:
-    """Valgrind over one program, which is compiled without a sanitizer; how many faults."""
-    if not shutil.which("valgrind"):
-        show("Valgrind: it is not here")
-        return 0
-    plain = programs.Trial(library, room / "plain")
-    programs.compile_tests(plain.room / "programs")
-    wrong = under_valgrind(plain)
-    show(f"Valgrind: {UNDER_VALGRIND}: {wrong or 'no word'}")
-    return int(wrong is not None)
