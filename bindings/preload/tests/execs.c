@@ -105,7 +105,7 @@ static void arms(void) {
   signal(SIGUSR1, SIG_IGN);
   signal(SIGUSR2, handles);
   sigprocmask(SIG_BLOCK, &set, NULL);
-  setitimer(ITIMER_REAL, &(struct itimerval){{0, 0}, {0, 20000}}, NULL);
+  setitimer(ITIMER_REAL, &(struct itimerval){{0, 0}, {0, 300000}}, NULL); /* long after the exec */
 }
 static void waits(void) {
   struct sigaction act;
