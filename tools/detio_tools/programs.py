@@ -1195,12 +1195,13 @@ int main(void) { printf("%ld %ld %ld\\n", early[0], early[1], early[2]); return 
 AFTER = {
     "library.c": """#define _GNU_SOURCE
 #include <dlfcn.h>
+#include <pthread.h>
 #include <time.h>
-#include <unistd.h>
 static int counted;
-pid_t getppid(void) {
+typedef int creates(pthread_t *, const pthread_attr_t *, void *(*)(void *), void *);
+int pthread_create(pthread_t *thread, const pthread_attr_t *attr, void *(*begins)(void *), void *given) {
   counted++;
-  return ((pid_t(*)(void))dlsym(RTLD_NEXT, "getppid"))() + 1;
+  return counted > 9 ? 1 : ((creates *)dlsym(RTLD_NEXT, "pthread_create"))(thread, attr, begins, given);
 }
 int calls_of(void) { return counted; }
 long after(void) {
@@ -1209,13 +1210,17 @@ long after(void) {
   return now.tv_nsec;
 }
 """,
-    "program.c": """#include <stdio.h>
-#include <unistd.h>
+    "program.c": """#include <pthread.h>
+#include <stdio.h>
 extern long after(void);
 extern int calls_of(void);
+static void *works(void *given) { return given; }
 int main(void) {
-  int own = getppid();
-  printf("%ld %d %d\\n", after(), own > 1, calls_of());
+  pthread_t thread;
+  void *result = NULL;
+  int code = pthread_create(&thread, NULL, works, &thread);
+  if (!code) pthread_join(thread, &result);
+  printf("%ld %d %d\\n", after(), code || result != &thread, calls_of());
   return 0;
 }
 """}
@@ -1227,7 +1232,7 @@ def after(trial: Trial) -> None:
     make_inputs(folder)
     make_with_library(folder, AFTER, "after")
     run = trial.run("after.log", "./program", folder=folder)
-    trial.check(run.status == 0 and len(run.out.split()) == 3, f"after: {run.status} {run.out!r} {run.ours()}")
+    trial.check(run.status == 0 and run.out.split()[1:] == [b"0", b"1"], f"after: {run.status} {run.out!r} {run.ours()}")
     for number in range(3):
         again = trial.rerun("after.log", folder=folder)
         trial.check(again.alone() == run.alone(), f"after: rerun {number}: {again.status} {again.out!r} {again.ours()}")

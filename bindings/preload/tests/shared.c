@@ -26,6 +26,7 @@ static void segments(void) {
   printf("%s\n", again + 5000);
   SAY(shmctl(id, IPC_STAT, &about) + (long)about.shm_nattch + (long)about.shm_segsz);
   SAY(shmctl(id, IPC_RMID, NULL));
+  SAY(shmctl(id, IPC_STAT, &about) + (long)about.shm_nattch);
   SAY(shmdt(again));
   SAY(shmdt(again));
   SAY(shmdt(at + 4096));
