@@ -659,6 +659,8 @@ int control(int fd, int what, long given) {
   case F_SETFD: return closes_on_exec[fd] = given & FD_CLOEXEC, 0;
   case F_GETLK: case F_SETLK: case F_SETLKW: case F_OFD_GETLK: case F_OFD_SETLK: case F_OFD_SETLKW:
     return lock_record(fd, what, (struct flock *)given);
+  case F_GETPIPE_SZ: /* as the machine has it */
+    return opened_at(fd)->kind == PIPE && !(opened_at(fd)->in && opened_at(fd)->out) ? 4096 : (errno = EBADF, -1);
   default:
     uncovered("fcntl", "fcntl %d of descriptor %d is not covered: refused, in a rerun too", what, fd);
     return errno = EINVAL, -1;

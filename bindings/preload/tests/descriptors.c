@@ -137,6 +137,9 @@ static void pairs(void) {
   struct pollfd fds[2];
   fd_set in;
   SAY(pipe(p));
+  SAY(fcntl(p[0], F_GETPIPE_SZ) > 0 && fcntl(p[0], F_GETPIPE_SZ) == fcntl(p[1], F_GETPIPE_SZ));
+  SAY(fcntl(open("input.txt", O_RDONLY), F_GETPIPE_SZ));
+  closefrom(p[1] + 1);
   SAY(ioctl(p[0], FIONREAD, bytes));
   SAY(*(int *)bytes);
   SAY(write(p[1], "there", 5));
