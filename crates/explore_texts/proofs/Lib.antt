@@ -3,3 +3,4 @@ pub mod ExactFound
 pub mod Failing
 pub mod Interrupts
 pub mod Joining
+pub mod Numbering

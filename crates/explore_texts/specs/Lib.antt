@@ -4,6 +4,7 @@ pub mod Judged
 pub mod Waits
 pub mod Looked
 pub mod Alike
+pub mod Numbers
 pub mod Found
 pub mod CaseTexts
 pub mod FoundJson

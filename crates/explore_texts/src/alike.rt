@@ -1,12 +1,14 @@
-ghost use Rattle.std.specs.Prelude.{◌≡◌, ◌↔◌, ◌+◌, ◌<◌, ◌^◌, [], All, IfOk, IsTrue, OnOk};
+ghost use Rattle.std.specs.Prelude.{◌≡◌, ◌↔◌, ◌+◌, ◌<◌, ◌^◌, [], All, IfOk, IsTrue, OnOk, length};
+ghost use Rattle.std.specs.Prelude.{map, slice_index_or};
 ghost use Rattle.explorer.specs.Groups.{runs_of};
 ghost use Rattle.explore_texts.specs.Alike.{AllJoin, AreAlike, IsNext, Joins, place_of, runs_in};
 ghost use Rattle.explore_texts.specs.Alike.{unmet_of};
+ghost use Rattle.explore_texts.specs.Numbers.{number_in};
 
 use crate::looked::Looked;
 use command_inputs::UnmetLine;
 use comparator::{Verdict, compare};
-use explorer::{Group, Groups};
+use explorer::{Group, Groups, number_of};
 use posix_terms::Bytes;
 use std::alloc::{AllocError, Global};
 
@@ -34,6 +36,13 @@ impl AlikeRuns {
             Some(unmet) => Some(unmet_place(unmet)),
             None => None,
         }
+    }
+
+    // A number for what is compared of what their threads saw.
+    fn number(&self) -> u64
+        ensures { result ≡ number_in self.now }
+    {
+        number_of(self.looked.compared(&self.group.observation))
     }
 
     // Whether these and others are alike.
@@ -72,27 +81,50 @@ pub fn alike_runs(
     ensures runs { IfOk result (λ all. runs_in all.items ≡ runs_of groups) }
 {
     let mut all = Vec::new(alloc);
+    let mut numbers = Vec::new(alloc);
     for group in groups.into_vec() {
         let looked = Looked::new(alloc, texts, raw, &group.observation)?;
-        join(&mut all, AlikeRuns { group, looked })?;
+        join(&mut all, &mut numbers, AlikeRuns { group, looked })?;
     }
     Ok(all)
 }
 
-// These runs join those before.
-fn join(all: &mut Vec<AlikeRuns>, runs: AlikeRuns) -> Result<(), AllocError>
-    requires { runs_in all.old.items + runs.group.runs < 2 ^ 64 }
-    ensures { OnOk result (Joins runs all.old.items all.new.items) }
+// These runs join those before, which have these numbers.
+fn join(all: &mut Vec<AlikeRuns>, numbers: &mut Vec<u64>, runs: AlikeRuns) -> Result<(), AllocError>
+    requires fits { runs_in all.old.items + runs.group.runs < 2 ^ 64 }
+    requires numbers { numbers.old.items ≡ map number_in all.old.items }
+    ensures joined { OnOk result (Joins runs all.old.items all.new.items) }
+    ensures numbers { OnOk result (numbers.new.items ≡ map number_in all.new.items) }
 {
+    let number = runs.number();
     for i in 0..all.len() {
-        if all[i].is_alike(&runs) {
+        if is_alike_at(all, numbers, i, number, &runs) {
             all[i].group.runs += runs.group.runs;
             return Ok(());
         }
     }
     let next = next_place(all, runs.unmet_place());
     all.insert(next, runs)?;
+    numbers.insert(next, number)?;
     Ok(())
+}
+
+// Whether these runs, which have this number, and those at this place are alike. Only those with the same number are
+// compared.
+#[tactic(auto, using(crate::proofs::Numbering::alike_numbers))]
+fn is_alike_at(
+    all: &[AlikeRuns],
+    numbers: &[u64],
+    place: usize,
+    number: u64,
+    runs: &AlikeRuns,
+) -> bool
+    requires inside { place < length all.now }
+    requires numbers { numbers.now ≡ map number_in all.now }
+    requires its { number ≡ number_in runs.now }
+    ensures { (d : _) → IsTrue result ↔ AreAlike (slice_index_or all.now place d) runs.now }
+{
+    numbers[place] == number && all[place].is_alike(runs)
 }
 
 // How many stand before the next runs with this unmet expectation, or this lack of one.

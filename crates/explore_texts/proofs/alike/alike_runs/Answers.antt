@@ -17,7 +17,7 @@ loop-group-preserved c =
     let joined = c.join.new.all.items in
     let rest = into_iter_items c.next.new.self in
     let all : into_iter_items c.loop-group.group-iterator ≡ group ∷ rest = search rules in
-    let joins = c.in_ok-join.ensures in
+    let joins = c.in_ok-join.ensures.joined in
     let more = more_runs runs old joined joins in
     let count = sum_by-cons (λ (g : Group). g.runs) group rest in
     let whole = ap (λ (l : List Group). runs_of l) all in
@@ -28,5 +28,6 @@ loop-group-preserved c =
           inv.joins new
           (subst (λ (l : List Group). AllJoin c.args.raw c.args.texts.now l old new) (sym all)
           (c.in_ok-looked.looked, c.in_ok-looked.ensures, (joined, joins, later)));
+      numbers = c.in_ok-join.ensures.numbers;
       runs = omega (arith, inv.runs, more, count, whole);
     }

@@ -7,6 +7,7 @@ use Rattle.explore_texts.proofs.alike.join.Given as goal
 abbrev pub invariant-loop-i : goal.invariant-loop-i
 invariant-loop-i l = record {
   kept : l.all ≡ l.initial.all;
+  numbers : l.numbers ≡ l.initial.numbers;
   ends : l.i-end ≡ length l.all.items;
   others : All (λ (other : AlikeRuns). ¬ AreAlike other l.runs) (take l.i l.all.items);
 }
