@@ -23,8 +23,8 @@ __attribute__((visibility("hidden"))) void *detio_in_place(void *handle, const c
   return is_in(&own_code, ours) ? ours : NULL;
 }
 
-/* Where the library is made with a sanitizer, it comes before the sanitizer's own, whose functions are then behind ours:
- * a thread that begins is known to it before it waits for its turn. Its allocator asks no clock while it holds its locks,
+/* Where the library is made with a sanitizer, it comes before the sanitizer's, whose functions come after ours. So a
+ * thread that begins is known to it before it waits for its turn. Its allocator asks no clock while it holds its locks,
  * since the processor's counts are questions of ours. It looks functions up before it can look at ours: so none is. */
 #ifdef __SANITIZE_ADDRESS__
 const char *__asan_default_options(void);

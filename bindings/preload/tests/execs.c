@@ -21,8 +21,8 @@ static void handles(int number) { came += number; }
 
 /* Numbers of files that go along: one for reading, one that it shares, one for appending; ends of pipes and pairs;
  * sockets; and one that does not go along. */
-enum { INPUT = 5, SHARED = 9, OUTPUT = 4, READS = 20, WRITES = 12, ONLY = 14, LEFT = 7, RIGHT = 11, HOST = 16, DATAGRAMS = 18,
-       GONE = 22, ALSO = 24 };
+enum { INPUT = 5, SHARED = 9, OUTPUT = 4, READS = 20, WRITES = 12, ONLY = 14, LEFT = 7, RIGHT = 11, HOST = 16,
+       DATAGRAMS = 18, GONE = 22, ALSO = 24 };
 
 static void moves(int from, int to) {
   if (from != to) dup2(from, to), close(from);
@@ -52,7 +52,8 @@ static void opens(void) {
   moves(socket(AF_INET, SOCK_STREAM, 0), HOST);
   address |= bind(HOST, (struct sockaddr *)&at, sizeof at) | listen(HOST, 5);
   moves(socket(AF_INET, SOCK_DGRAM, 0), DATAGRAMS);
-  address |= bind(DATAGRAMS, (struct sockaddr *)&at, sizeof at) | getsockname(DATAGRAMS, (struct sockaddr *)&at, &length);
+  address |= bind(DATAGRAMS, (struct sockaddr *)&at, sizeof at);
+  address |= getsockname(DATAGRAMS, (struct sockaddr *)&at, &length);
   SAY(address);
   SAY(sendto(DATAGRAMS, "to itself", 9, 0, (struct sockaddr *)&at, sizeof at));
   moves(open("input.txt", O_RDONLY | O_CLOEXEC), GONE);
@@ -62,7 +63,8 @@ static void opens(void) {
 
 /* What is there after the first exec. */
 static void looks(void) {
-  static const int all[] = {0, 1, 2, INPUT, SHARED, OUTPUT, READS, WRITES, ONLY, LEFT, RIGHT, HOST, DATAGRAMS, GONE, ALSO};
+  static const int all[] = {0, 1, 2, INPUT, SHARED, OUTPUT, READS, WRITES, ONLY, LEFT, RIGHT, HOST, DATAGRAMS,
+                            GONE, ALSO};
   char bytes[64];
   for (size_t i = 0; i < sizeof all / sizeof *all; i++) {
     bool standard = all[i] < 3 || all[i] == ALSO; /* has modes of its own without us */

@@ -139,8 +139,8 @@ static void elsewhere(void) {
 
 /* Several messages with one call. */
 static void several(int one, int other) {
-  struct iovec out[3] = {{"first", 5}, {"second", 6}, {"third", 5}}, in[4] = {{text, 10}, {text + 10, 3}, {text + 20, 10},
-                                                                              {text + 30, 10}};
+  struct iovec out[3] = {{"first", 5}, {"second", 6}, {"third", 5}};
+  struct iovec in[4] = {{text, 10}, {text + 10, 3}, {text + 20, 10}, {text + 30, 10}};
   struct mmsghdr all[4];
   struct timespec none = {0, 0}, wrong = {0, 1000000000};
   memset(all, 0, sizeof all), memset(text, 0, sizeof text);
@@ -156,7 +156,7 @@ static void several(int one, int other) {
          all[1].msg_hdr.msg_flags == MSG_TRUNC);
   SAY(recvmmsg(other, all, 4, MSG_DONTWAIT, NULL));
 }
-/* A descriptor that another process sends. What is sent by system calls alone is none of ours, and a rerun sends none. */
+/* A descriptor that another process sends. What is sent by system calls alone is not ours, and a rerun sends none. */
 static void brought(void) {
   struct sockaddr_un to = {.sun_family = AF_UNIX, .sun_path = "brought"};
   int fd = socket(AF_UNIX, SOCK_DGRAM, 0);

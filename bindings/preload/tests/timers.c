@@ -86,8 +86,8 @@ static void together(void) {
   SAY(epoll_wait(at, &found, 1, 10));
 }
 
-/* A timer that is added to an epoll, or to its timers, while another thread waits there with a bound: that does not ring
- * before the wait is over. */
+/* A timer that is added to an epoll, or to its timers, while another thread waits there with a bound: that does not
+ * ring before the wait is over. */
 static int waited_at;
 static void *adds(void *given) {
   struct epoll_event found = {.events = EPOLLIN, .data.fd = 3};
